@@ -1,4 +1,4 @@
--- `new` ties the chip's value to its model. Assumes `Given`.
+-- `new` ties the chip's value to its model: the proof by hand. Assumes `Given`.
 use mathlib.Core.Path.{_≡_, refl, sym}
 use Prim.Native.Nat.{ℕ}
 use mathlib.Core.List.{List, [], _∷_}
@@ -42,25 +42,30 @@ use Rattle.flash.specs.contracts.ties.Tie.new.Key.{name as #self}
 use Rattle.flash.proofs.ties.Tie.new.Statement as stated
 use Rattle.flash.proofs.ties.Tie.new.Code as code
 
+-- what a witness tells
 abbrev state : {X : Type 0} → Tie X → View
 state t = told (t .coded)
 
 module _ (Y : RattleType) (g : Ghosts (Y .Denot)) where
+  -- the types: the chip's, and the witness's
   abbrev X : RattleType
   X = param 0 Y
 
   abbrev R : RattleType
   R = T.the-row X g
 
+  -- what `new` gives: the chip's value, and the code of its view
   abbrev made : Y .Denot → Tie (Y .Denot)
   made x = record { marker = record {}; of = x; coded = coded (viewOf (g .model x)) }
 
+  -- its signature: a borrowed chip in, a witness out
   abbrev ended : Ended
   ended = record { signature = record { lifetimes = 1; outlives = []; params = RefOf (0 ∷ []) tt (plain (λ _. X)) (λ _. tt) ∷ []; result = plain (λ _. R) }; kept = (yes, tt) }
 
   abbrev stayed : Stays (ended .signature .params) (ended .kept)
   stayed = (stay-none-ref (0 ∷ []) tt (plain (λ _. X)) yes, tt)
 
+  -- its contract, as src/ties.rt has it
   abbrev spec : {M : Type 1} (𝓤 : URA M) → Clauses 𝓤 ended
   spec 𝓤 κs a = record { ghost = Unit {0}; requires = λ _. emp 𝓤; ensures = λ _ r _. fact 𝓤 ((r .of ≡ now (a .0)) × (state r ≡ viewOf (g .model (now (a .0))))) }
 
@@ -81,6 +86,7 @@ module _ (Y : RattleType) (g : Ghosts (Y .Denot)) (dict : Dict) {M : Type 1} (�
     abbrev Post : Val → SProp 𝓤
     Post = walkOf 𝓤 H A (ended Y g) (stayed Y g) (spec Y g 𝓤) .post bound
 
+    -- at the return: the contract's two facts, by refl and `told-coded`, and the equation that the witness owns
     exits : ent 𝓤 (sep 𝓤 (A .lft κ q) (sep 𝓤 (A .res γ (Y .coded .code x)) (sem 𝓤 H A (shrAt (X Y g) κ x b o)))) (Post word)
     exits =
         qed W (‵ (flft κ q) ∷ ‵ (fres γ (Y .coded .code x)) ∷ ‵ (shrAt (X Y g) κ x b o) ∷ []) ∵
@@ -88,6 +94,7 @@ module _ (Y : RattleType) (g : Ghosts (Y .Denot)) (dict : Dict) {M : Type 1} (�
         nothing ! $ move ! (1 ∷ 0 ∷ []) $ join ! $ frame ! $ feqI ! (List Val) (vptr b o ∷ []) (vptr b o ∷ []) refl $ fjoin3 ! $ nothing ! $ move ! (1 ∷ 0 ∷ []) $ fjoin ! $ frame ! $
         use0 W (‵ (R Y g .own (made Y g x) (word ∷ []))) (makes-shadow 𝓤 H A (R Y g .own (made Y g x) (word ∷ [])) (λ _. (tt, ((λ _. (tt, tt)), tt)), tt) (((vstruct vnil ∷ [], tt), (refl, ((tt, (refl, tt)), tt))), sym (told-coded (viewOf (g .model x))))) $ done !
 
+    -- the body, statement by statement: the marker, the struct, the return
     walk : (C : Calls 𝓤 H) (Λ : Loops 𝓤 H) → ent 𝓤 (onEntry 𝓤 H A (ended Y g .signature) (κ, tt) (q, tt) (chip, tt) (vptr b o ∷ [], tt)) (WpFn 𝓤 H C Λ fn′ (vptr b o ∷ []) Post)
     walk C Λ =
         qed W ((‵ (flft κ q) ⊛ ‵ ftrue) ∷ ‵ (owns (ShrRef (named 0) κ (X Y g) ∷ []) (chip, tt) (vptr b o ∷ [], tt)) ∷ []) ∵
@@ -96,6 +103,7 @@ module _ (Y : RattleType) (g : Ghosts (Y .Denot)) (dict : Dict) {M : Type 1} (�
         sets ! (agg ! (no-more !)) refl (tt, tt) $ sets ! (agg ! (and-then ! (get ! refl) (no-more !))) refl (tt, (tt, tt)) $
         returns ! (look-at ! 0 refl) $ free-all ! refl $ by ! exits)
 
+  -- so whoever calls this code by this signature has the contract
   meets : (𝓣 : Tables 𝓤 H) → Meets 𝓤 H A (ended Y g .signature) (WpFn 𝓤 H (𝓣 .C) (𝓣 .Λ) fn′) (closing 𝓤 H A (ended Y g) (spec Y g 𝓤))
   meets 𝓣 =
       walk-meets 𝓤 H A (ended Y g) (stayed Y g) W (goes-none-ref 𝓤 H A W 1 (0 ∷ []) tt (plain (λ _. X Y g)) yes, tt) (spec Y g 𝓤) (WpFn 𝓤 H (𝓣 .C) (𝓣 .Λ) fn′) (WpFn-mono 𝓤 H (W .laws) 𝓣 fn′)

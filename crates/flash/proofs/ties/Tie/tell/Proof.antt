@@ -1,4 +1,4 @@
--- `tell` reads the equation off a `&`. Assumes `Given`.
+-- `tell` reads the equation off a `&`: the proof by hand. Assumes `Given`.
 use mathlib.Core.Path.{_≡_, refl}
 use Prim.Native.Nat.{ℕ}
 use mathlib.Core.List.{List, [], _∷_}
@@ -46,6 +46,7 @@ use Rattle.flash.specs.contracts.ties.Tie.tell.Key.{name as #self}
 use Rattle.flash.proofs.ties.Tie.tell.Statement as stated
 use Rattle.flash.proofs.ties.Tie.tell.Code as code
 
+-- what a witness tells
 abbrev state : {X : Type 0} → Tie X → View
 state t = told (t .coded)
 
@@ -53,12 +54,14 @@ module _ (Y : RattleType) (g : Ghosts (Y .Denot)) where
   abbrev R : RattleType
   R = T.the-row (param 0 Y) g
 
+  -- its signature: a borrowed witness in, nothing out
   abbrev ended : Ended
   ended = record { signature = record { lifetimes = 1; outlives = []; params = RefOf (0 ∷ []) tt (plain (λ _. R)) (λ _. tt) ∷ []; result = plain (λ _. unit) }; kept = (yes, tt) }
 
   abbrev stayed : Stays (ended .signature .params) (ended .kept)
   stayed = (stay-none-ref (0 ∷ []) tt (plain (λ _. R)) yes, tt)
 
+  -- its contract, as src/ties.rt has it
   abbrev spec : {M : Type 1} (𝓤 : URA M) → Clauses 𝓤 ended
   spec 𝓤 κs a = record { ghost = Unit {0}; requires = λ _. emp 𝓤; ensures = λ _ r _. fact 𝓤 (viewOf (g .model (now (a .0) .of)) ≡ state (now (a .0))) }
 
@@ -79,12 +82,14 @@ module _ (Y : RattleType) (g : Ghosts (Y .Denot)) (dict : Dict) {M : Type 1} (�
     abbrev Post : Val → SProp 𝓤
     Post = walkOf 𝓤 H A (ended Y g) (stayed Y g) (spec Y g 𝓤) .post bound
 
+    -- at the return, with the equation in hand
     exits : viewOf (g .model (d .of)) ≡ state d → ent 𝓤 (sep 𝓤 (A .lft κ q) (sep 𝓤 (A .res γ (R Y g .coded .code d)) (sem 𝓤 H A (shrAt (R Y g) κ d b o)))) (Post vunit)
     exits e =
         qed W (‵ (flft κ q) ∷ ‵ (fres γ (R Y g .coded .code d)) ∷ ‵ (shrAt (R Y g) κ d b o) ∷ []) ∵
         suffices ! _ (ends-at 𝓤 H A (ended Y g) (stayed Y g) (spec Y g 𝓤) W bound vunit tt (tt, tt) (tt, tt)) $ says ! e $
         nothing ! $ move ! (1 ∷ 0 ∷ []) $ join ! $ frame ! $ feqI ! (List Val) (vptr b o ∷ []) (vptr b o ∷ []) refl $ fjoin3 ! $ nothing ! $ move ! (1 ∷ 0 ∷ []) $ fjoin ! $ frame ! $ feqI ! (List Val) (vunit ∷ []) (vunit ∷ []) refl $ done !
 
+    -- the body, which is empty: before it, the loan of the witness gives up the equation that it lends (`lent-out`, `unhide`)
     walk : (C : Calls 𝓤 H) (Λ : Loops 𝓤 H) → ent 𝓤 (onEntry 𝓤 H A (ended Y g .signature) (κ, tt) (q, tt) (self, tt) (vptr b o ∷ [], tt)) (WpFn 𝓤 H C Λ fn′ (vptr b o ∷ []) Post)
     walk C Λ =
         qed W ((‵ (flft κ q) ⊛ ‵ ftrue) ∷ ‵ (owns (ShrRef (named 0) κ (R Y g) ∷ []) (self, tt) (vptr b o ∷ [], tt)) ∷ []) ∵
@@ -96,6 +101,7 @@ module _ (Y : RattleType) (g : Ghosts (Y .Denot)) (dict : Dict) {M : Type 1} (�
         sets ! (of-opd ! (unit-lit !)) refl (tt, tt) $
         returns ! (look-at ! 0 refl) $ free-all ! refl $ by ! (exits e)))
 
+  -- so whoever calls this code by this signature has the contract
   meets : (𝓣 : Tables 𝓤 H) → Meets 𝓤 H A (ended Y g .signature) (WpFn 𝓤 H (𝓣 .C) (𝓣 .Λ) fn′) (closing 𝓤 H A (ended Y g) (spec Y g 𝓤))
   meets 𝓣 =
       walk-meets 𝓤 H A (ended Y g) (stayed Y g) W (goes-none-ref 𝓤 H A W 1 (0 ∷ []) tt (plain (λ _. R Y g)) yes, tt) (spec Y g 𝓤) (WpFn 𝓤 H (𝓣 .C) (𝓣 .Λ) fn′) (WpFn-mono 𝓤 H (W .laws) 𝓣 fn′)
