@@ -1,0 +1,13 @@
+pub mod Lists
+pub mod Records
+pub mod Reading
+pub mod Places
+pub mod Mounting
+pub mod Calls
+pub mod Right
+pub mod Refusals
+pub mod Laws
+pub mod Safety
+pub mod Machine
+pub mod Runs
+pub mod Worked
