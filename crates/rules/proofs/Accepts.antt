@@ -1,34 +1,32 @@
 -- Mount accepts contents exactly when they are good. Assumes nothing.
-use Prim.Native.Nat.{ℕ, zero, suc, _+_, _-_, _*_, _≤_, _<_, max}
+use Prim.Native.Nat.{ℕ, zero, suc, _+_, _≤_, _<_, max}
 use native.Mathlib.Omega.{arith}
 use mathlib.Core.Path.{_≡_, refl, sym, ap, subst, _∙_}
-use mathlib.Core.Logic.{_⊎_, inl, inr}
-use mathlib.Core.Bool.{Bool, true, false, not, _&&_, _||_, cond}
-use mathlib.Core.List.{List, [], _∷_, _++_}
-use lib.Dec.{eqb, ltb, leb}
-use lib.ListN.{length, getD, set, replicate}
-use Rattle.std.proofs.shelf.Tests.{both-ways, cases-bool, cases-eq, and-parts, and-from, and-cases, and-right, or-cases, or-left, or-right, not-true, not-false, not-from-true, not-from-false, eqb-true, eqb-false, eq-eqb, ne-eqb, ltb-false, le-ltb, cond-true, cond-false}
+use mathlib.Core.Logic.{inl, inr}
+use mathlib.Core.Bool.{Bool, true, false, not, _&&_, cond}
+use mathlib.Core.List.{List, [], _∷_}
+use lib.Dec.{eqb, ltb}
+use lib.ListN.{length, getD}
+use Rattle.std.proofs.shelf.Tests.{both-ways, cases-eq, and-parts, and-from, and-cases, and-right, or-cases, or-left, or-right, not-true, not-false, not-from-true, not-from-false, eqb-true, eq-eqb, ne-eqb, ltb-false, le-ltb, cond-false}
 use Rattle.std.specs.declared.option.Option.{Option}
 use Rattle.std.specs.declared.option.Option.the-variants.{Some, None}
 use Rattle.flash.specs.declared.chunks.Record.{Record}
 use Rattle.rules.specs.Lists.{Among, any, orElse, sameBytes}
-use Rattle.rules.specs.Records.{object, keepsRules}
+use Rattle.rules.specs.Records.{keepsRules}
 use Rattle.rules.specs.Reading.{Files, named, nameTaken, header, highestChunk, chunk, files, fileOf, bytesIn, File, nameIn, usedBy}
 use Rattle.rules.specs.Places.{load}
-use Rattle.rules.specs.Mounting.{allBlankB, sizesFit, Placed, placedIn, placed, sameRec, unlike, firstPlaced, firstClash, twoNamed, sharesName, limit, someLoadless, noWayOn, Fault, plainIf, placedFault, mountFault}
+use Rattle.rules.specs.Mounting.{blankBlock, sizesFit, Placed, placedIn, placed, sameRecord, unlike, firstPlaced, firstClash, twoNamed, sharesName, limit, someLoadless, noWayOn, Fault, plainIf, placedFault, verdict}
 use Rattle.rules.specs.Runs.{Shaped}
 use Rattle.flash.specs.declared.chunks.Chunk.{Chunk}
 use Rattle.flash.specs.declared.chunks.Chunk.the-variants.{Blank, Damaged, Holds}
 use Rattle.flash.specs.Blocks.{recordsOf, standing}
-use Rattle.rules.specs.declared.kinds.Kind.{Kind}
-use Rattle.rules.specs.declared.kinds.Kind.the-variants.{Data as dataK, Header as headerK, CutHeader as cutK, Marker as markerK, Other as otherK}
-use Rattle.rules.proofs.Lists.{any-true, any-from, any-false, any-none}
-use Rattle.rules.proofs.Blocks.{among-left, among-right, among-cases, cons-cases, cons-in, cons-rest}
+use Rattle.rules.proofs.Lists.{any-true, any-false, any-none}
+use Rattle.rules.proofs.Blocks.{among-left, among-right, among-cases}
 use Rattle.rules.proofs.Mounts.{blank-block}
 use Rattle.rules.proofs.Objects.{object-true, object-false, object-some, object-none}
 use Rattle.rules.proofs.Counting.{object-in}
-use Rattle.rules.proofs.Filed.{some-none, some-is, HeaderIn, DataIn, filed-view, header-filed, header-of, HeaderAt, header-at, FileAt, file-at}
-use Rattle.rules.proofs.Keeping.{FilesOk, Way, Good, load-none}
+use Rattle.rules.proofs.Filed.{some-none, header-at, file-at}
+use Rattle.rules.proofs.Keeping.{Way, Good, load-none}
 use Rattle.rules.proofs.Placing.{none-recs}
 
 -- options and tests
@@ -65,7 +63,7 @@ bytes-self (x ∷ xs) = and-from _ _ (eq-eqb x x refl) (bytes-self xs)
 pub bytes-from : (xs ys : List ℕ) → xs ≡ ys → sameBytes xs ys ≡ true
 bytes-from xs ys e = ap (sameBytes xs) (sym e) ∙ bytes-self xs
 
-pub rec-true : (a b : Record) → sameRec a b ≡ true → a ≡ b
+pub rec-true : (a b : Record) → sameRecord a b ≡ true → a ≡ b
 rec-true a b e =
     let x = and-parts (eqb (a .tag .first) (b .tag .first)) _ e in
     let y = and-parts (eqb (a .tag .second) (b .tag .second)) _ (x .1) in
@@ -73,7 +71,7 @@ rec-true a b e =
     let u = and-parts (eqb (a .tag .serial) (b .tag .serial)) _ (z .1) in
     λ i. record { tag = record { first = eqb-true _ _ (x .0) i; second = eqb-true _ _ (y .0) i; third = eqb-true _ _ (z .0) i; serial = eqb-true _ _ (u .0) i }; bytes = bytes-true (a .bytes) (b .bytes) (u .1) i }
 
-pub rec-self : (a : Record) → sameRec a a ≡ true
+pub rec-self : (a : Record) → sameRecord a a ≡ true
 rec-self a = and-from _ _ (eq-eqb (a .tag .first) (a .tag .first) refl) (and-from _ _ (eq-eqb (a .tag .second) (a .tag .second) refl) (and-from _ _ (eq-eqb (a .tag .third) (a .tag .third) refl) (and-from _ _ (eq-eqb (a .tag .serial) (a .tag .serial) refl) (bytes-self (a .bytes)))))
 
 abbrev Agree : Record → Record → Type 0
@@ -82,15 +80,15 @@ Agree a b = a .tag .serial ≡ b .tag .serial → a ≡ b
 like : (a b : Record) → unlike a b ≡ false → Agree a b
 like a b e s = go (eqb (a .tag .serial) (b .tag .serial)) (eq-eqb _ _ s) e
   where
-    go : (z : Bool) → z ≡ true → _≡_ {A = Bool} (elim z [ true ↦ not (sameRec a b) | false ↦ false ]) false → a ≡ b
-    go true f h = rec-true a b (not-false (sameRec a b) h)
+    go : (z : Bool) → z ≡ true → _≡_ {A = Bool} (elim z [ true ↦ not (sameRecord a b) | false ↦ false ]) false → a ≡ b
+    go true f h = rec-true a b (not-false (sameRecord a b) h)
     go false f h = absurd (both-ways false refl f)
 
 unlike-not : (a b : Record) → Agree a b → unlike a b ≡ false
 unlike-not a b h = go (eqb (a .tag .serial) (b .tag .serial)) refl
   where
-    go : (z : Bool) → eqb (a .tag .serial) (b .tag .serial) ≡ z → _≡_ {A = Bool} (elim z [ true ↦ not (sameRec a b) | false ↦ false ]) false
-    go true e = not-from-true (sameRec a b) (ap (sameRec a) (sym (h (eqb-true _ _ e))) ∙ rec-self a)
+    go : (z : Bool) → eqb (a .tag .serial) (b .tag .serial) ≡ z → _≡_ {A = Bool} (elim z [ true ↦ not (sameRecord a b) | false ↦ false ]) false
+    go true e = not-from-true (sameRecord a b) (ap (sameRecord a) (sym (h (eqb-true _ _ e))) ∙ rec-self a)
     go false e = refl
 
 -- the scan's list has what stands
@@ -246,9 +244,9 @@ loadless-from bs b (x ∷ xs) (suc i) l e = or-right _ _ (loadless-from bs (suc 
 way-from : (n : ℕ) (bs : List (List Chunk)) → length bs ≡ n → noWayOn bs ≡ false → Way n bs
 unfolding noWayOn
 way-from n bs m e =
-    elim (and-cases (not (any allBlankB bs)) (not (someLoadless bs 0 bs)) e) [
+    elim (and-cases (not (any blankBlock bs)) (not (someLoadless bs 0 bs)) e) [
       | inl h ↦
-          (let x = any-true allBlankB bs (not-false _ h) in
+          (let x = any-true blankBlock bs (not-false _ h) in
           let y = among-index bs (x .0) [] (x .1) in
           (y .0, (let l = y .1 in omega arith), load-none bs (y .0) (λ r a t. absurd (none-recs (length (x .0)) r (subst (λ (z : List Chunk). Among r (recordsOf z)) (y .2 ∙ blank-block (x .0) (x .2)) a)))))
       | inr h ↦
@@ -259,7 +257,7 @@ way-from n bs m e =
 way-to : (n : ℕ) (bs : List (List Chunk)) → length bs ≡ n → Way n bs → noWayOn bs ≡ false
 unfolding noWayOn
 way-to n bs m h =
-    and-right (not (any allBlankB bs)) (not (someLoadless bs 0 bs))
+    and-right (not (any blankBlock bs)) (not (someLoadless bs 0 bs))
     (not-from-true _ (loadless-from bs 0 bs (h .0) (let l = h .1 in omega arith) (ap (load bs) (let g : 0 + h .0 ≡ h .0 = omega arith in g) ∙ h .2)))
 
 module _ (w n p : ℕ) (bs : List (List Chunk)) where
@@ -284,7 +282,7 @@ module _ (w n p : ℕ) (bs : List (List Chunk)) where
   abbrev e10 : Option Fault
   e10 = orElse (placedFault 10 (firstPlaced broken-rule (placed 0 bs))) e11
 
-  pub mount-good : Shaped w n p bs → mountFault n p bs ≡ None → Good w n p bs
+  pub mount-good : Shaped w n p bs → verdict n p bs ≡ None → Good w n p bs
   mount-good sh e =
       let a = else-none (plainIf (not (sizesFit n p)) 9) e10 e in
       let b = else-none (placedFault 10 (firstPlaced broken-rule (placed 0 bs))) e11 (a .1) in
@@ -304,7 +302,7 @@ module _ (w n p : ℕ) (bs : List (List Chunk)) where
         way = way-from n bs (sh .blocks′) (plain-none _ _ (f .1));
       }
 
-  pub good-mount : Good w n p bs → mountFault n p bs ≡ None
+  pub good-mount : Good w n p bs → verdict n p bs ≡ None
   good-mount g =
       none-else (plainIf (not (sizesFit n p)) 9) e10 (ap (λ (z : Bool). plainIf z 9) (not-from-true _ (g .sizes)))
       (none-else (placedFault 10 (firstPlaced broken-rule (placed 0 bs))) e11 (ap (placedFault 10) (all-first broken-rule (placed 0 bs) (λ q a. not-from-true _ (g .rules (q .what) (placed-stands 0 bs q a)))))

@@ -1,24 +1,24 @@
 -- What a record newer than all others makes of the files: what the accepted call makes of them. Assumes nothing.
-use Prim.Native.Nat.{ℕ, zero, suc, _+_, _-_, _≤_, _<_, max}
+use Prim.Native.Nat.{ℕ, zero, suc, _≤_, _<_, max}
 use native.Mathlib.Omega.{arith}
-use mathlib.Core.Path.{_≡_, refl, sym, ap, subst, _∙_}
+use mathlib.Core.Path.{_≡_, refl, sym, ap, _∙_}
 use mathlib.Core.Logic.{_⊎_, inl, inr}
-use mathlib.Core.Bool.{Bool, true, false, not, _&&_, _||_, cond}
-use mathlib.Core.List.{List, [], _∷_, _++_}
+use mathlib.Core.Bool.{Bool, true, false, _&&_, _||_, cond}
+use mathlib.Core.List.{List, _∷_}
 use lib.Dec.{eqb, ltb, leb}
-use lib.ListN.{length, take, replicate}
-use Rattle.std.proofs.shelf.Tests.{both-ways, cases-eq, cases-lt, cases-bool, cond-true, cond-false, cond-both, and-parts, and-from, or-cases, or-parts, or-left, or-right, or-from, not-true, not-from-false, eqb-true, eq-eqb, ne-eqb, le-ltb, lt-ltb, leb-true, le-leb, lt-leb}
+use lib.ListN.{take}
+use Rattle.std.proofs.shelf.Tests.{both-ways, cases-eq, cases-lt, cond-true, cond-false, and-parts, eq-eqb, ne-eqb, le-ltb, leb-true, le-leb, lt-leb}
 use Rattle.std.specs.declared.option.Option.{Option}
 use Rattle.std.specs.declared.option.Option.the-variants.{Some, None}
 use Rattle.flash.specs.declared.chunks.Record.{Record}
 use Rattle.rules.specs.Lists.{Among, isThere}
 use Rattle.rules.specs.Records.{kind, kindBy, object, isData, isHeader, isCut, isMarker}
 use Rattle.rules.specs.Reading.{hides, hidden, header, headerOnly, headOf, dataOf, newest, newerIf, chunk, unhidden, highestChunk, files, fileOf, bytesIn, nameIn, File}
-use Rattle.rules.specs.Right.{accepted, fresh, withPart, shortened, renamed}
+use Rattle.rules.specs.Right.{fresh, withPart, shortened, renamed}
 use Rattle.rules.specs.declared.kinds.Kind.{Kind}
 use Rattle.rules.specs.declared.kinds.Kind.the-variants.{Data as dataK, Header as headerK, CutHeader as cutK, Marker as markerK, Other as otherK}
-use Rattle.rules.proofs.Lists.{any-none, newest-found, found-none, found-some, Newest, Found}
-use Rattle.rules.proofs.Views.{Hides, HeadOf, DataOf, hides-view, hides-from, head-view, head-from, data-view, data-from, marker-no-header, hidden-view, hidden-from}
+use Rattle.rules.proofs.Lists.{any-none, newest-found, Found}
+use Rattle.rules.proofs.Views.{Hides, HeadOf, DataOf, hides-view, hides-from, head-view, head-from, data-view, data-from, marker-no-header}
 use Rattle.rules.proofs.Removal.{highest-most, highest-least, highest-same}
 
 pub refuted : (b : Bool) → (b ≡ true → ⊥) → b ≡ false

@@ -1,12 +1,11 @@
 -- The record of each change makes of the files what the accepted change makes of them. Assumes nothing.
-use Prim.Native.Nat.{ℕ, zero, suc, _+_, _-_, _≤_, _<_, max}
+use Prim.Native.Nat.{ℕ, _≤_, _<_}
 use native.Mathlib.Omega.{arith}
-use mathlib.Core.Path.{_≡_, refl, sym, ap, subst, _∙_}
-use mathlib.Core.Logic.{_⊎_, inl, inr}
-use mathlib.Core.Bool.{Bool, true, false, not, _&&_, _||_, cond}
-use mathlib.Core.List.{List, [], _∷_, _++_}
-use lib.Dec.{eqb, ltb, leb}
-use lib.ListN.{length, take, replicate}
+use mathlib.Core.Path.{_≡_, refl, sym, ap, _∙_}
+use mathlib.Core.Logic.{inl, inr}
+use mathlib.Core.Bool.{true, false, _&&_}
+use mathlib.Core.List.{List, _∷_}
+use lib.Dec.{eqb, leb}
 use Rattle.std.proofs.shelf.Tests.{both-ways, cases-eq, cond-true, cond-false, and-from, eq-eqb, ne-eqb, le-leb}
 use Rattle.std.proofs.shelf.Lists.{take-at}
 use Rattle.std.specs.declared.option.Option.{Option}
@@ -16,10 +15,10 @@ use Rattle.rules.specs.Lists.{Among, isThere}
 use Rattle.rules.specs.Records.{kind, kindBy, object, objectBy, isData}
 use Rattle.rules.specs.Reading.{header, present, files, File}
 use Rattle.rules.specs.Calls.{create, put, cut, rename, delete, opens, closes, collect, mount, recordBy, nameOf, longOf}
-use Rattle.rules.specs.Right.{accepted, changed, fresh, withPart, shortened, renamed}
+use Rattle.rules.specs.Right.{changed, fresh, withPart, shortened, renamed}
 use Rattle.rules.specs.Laws.{Adding-is-right}
 use Rattle.rules.specs.declared.kinds.Kind.{Kind}
-use Rattle.rules.specs.declared.kinds.Kind.the-variants.{Data as dataK, Header as headerK, CutHeader as cutK, Marker as markerK, Other as otherK}
+use Rattle.rules.specs.declared.kinds.Kind.the-variants.{Data as dataK}
 use Rattle.rules.proofs.Adding.{files-other, create-file, put-file, cut-file, rename-file, delete-file, was}
 
 -- a change of one object's file, seen at any object

@@ -1,33 +1,32 @@
 -- What the checks of a change leave: a record that keeps the rules, and files that mount accepts. Assumes nothing.
-use Prim.Native.Nat.{ℕ, zero, suc, _+_, _-_, _*_, _≤_, _<_, max}
+use Prim.Native.Nat.{ℕ, zero, suc, _+_, _-_, _≤_}
 use native.Mathlib.Omega.{arith}
 use mathlib.Core.Path.{_≡_, refl, sym, ap, subst, _∙_}
 use mathlib.Core.Logic.{_⊎_, inl, inr}
-use mathlib.Core.Bool.{Bool, true, false, not, _&&_, _||_, cond}
+use mathlib.Core.Bool.{Bool, true, false, not, _&&_, cond}
 use mathlib.Core.List.{List, [], _∷_, _++_}
-use lib.Dec.{eqb, ltb, leb}
-use lib.ListN.{length, getD, take, replicate, length-append}
-use Rattle.std.proofs.shelf.Tests.{both-ways, cases-bool, cases-eq, and-parts, and-from, not-true, not-false, not-from-false, eqb-true, eq-eqb, ne-eqb, ltb-false, leb-true, leb-false, le-leb, cond-true, cond-false, cond-both}
+use lib.Dec.{eqb, leb}
+use lib.ListN.{length, take, replicate, length-append}
+use Rattle.std.proofs.shelf.Tests.{both-ways, cases-eq, and-parts, and-from, not-false, not-from-false, eq-eqb, ne-eqb, ltb-false, leb-true, leb-false, le-leb, cond-true, cond-false, cond-both}
 use Rattle.std.specs.declared.option.Option.{Option}
 use Rattle.std.specs.declared.option.Option.the-variants.{Some, None}
 use Rattle.flash.specs.declared.chunks.Record.{Record}
 use Rattle.rules.specs.Lists.{isThere, largest, within}
-use Rattle.rules.specs.Records.{kind, kindBy, object, isHeader, firstByte, rulesBy, keepsRules}
-use Rattle.rules.specs.Reading.{named, nameTaken, header, present, files, File, nameIn, Files, partsUp, usedOf, usedUp, usedBy}
-use Rattle.rules.specs.Calls.{Call, create, put, cut, rename, delete, mount, recordBy, next, padded, nameOf, longOf}
+use Rattle.rules.specs.Records.{kind, kindBy, isHeader, firstByte, rulesBy, keepsRules}
+use Rattle.rules.specs.Reading.{named, nameTaken, present, files, File, nameIn, Files, partsUp, usedOf, usedUp, usedBy}
+use Rattle.rules.specs.Calls.{Call, create, put, cut, rename, delete, recordBy, next, padded, nameOf, longOf}
 use Rattle.rules.specs.Right.{changed, fresh, withPart, shortened, renamed}
 use Rattle.rules.specs.Refusals.{Store, Table, firstOf, recs, isOpen, noSerial, earlyTable, roomTable, refusal}
 use Rattle.flash.specs.declared.chunks.Chunk.{Chunk}
 use Rattle.flash.specs.Blocks.{standing}
 use Rattle.rules.specs.declared.kinds.Kind.{Kind}
 use Rattle.rules.specs.declared.kinds.Kind.the-variants.{Data as dataK, Header as headerK, CutHeader as cutK, Marker as markerK, Other as otherK}
-use Rattle.rules.proofs.Lists.{any-from, any-false}
 use Rattle.rules.proofs.Removal.{chunk-there, highest-least}
 use Rattle.rules.proofs.Adding.{data-number}
-use Rattle.rules.proofs.Changes.{data-kind, some-header}
+use Rattle.rules.proofs.Changes.{data-kind}
 use Rattle.rules.proofs.Counting.{object-in}
-use Rattle.rules.proofs.Filed.{some-is, some-none, there-some, HeaderIn, header-filed, HeaderAt, header-at, FileAt, file-at, present-file}
-use Rattle.rules.proofs.Keeping.{FilesOk, Good}
+use Rattle.rules.proofs.Filed.{some-is, some-none, there-some, header-at, file-at, present-file}
+use Rattle.rules.proofs.Keeping.{Good}
 use Rattle.rules.proofs.Objects.{object-false}
 use Rattle.rules.proofs.Accepts.{bytes-from, Names, file-range}
 use Rattle.rules.proofs.Planning.{Fit}

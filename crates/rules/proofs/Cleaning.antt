@@ -1,14 +1,14 @@
 -- A cleaning with room for its copies loses nothing. Assumes nothing.
-use Prim.Native.Nat.{ℕ, zero, suc, _+_, _*_, _≤_, _<_}
+use Prim.Native.Nat.{ℕ, zero, suc, _+_, _≤_, _<_}
 use native.Mathlib.Omega.{arith}
 use mathlib.Core.Path.{_≡_, refl, sym, ap, subst, _∙_}
-use mathlib.Core.Logic.{_⊎_, inl, inr}
-use mathlib.Core.Bool.{Bool, true, false, not, _&&_, _||_, cond}
+use mathlib.Core.Logic.{inl, inr}
+use mathlib.Core.Bool.{Bool, true, false, not, cond}
 use mathlib.Core.List.{List, [], _∷_, _++_}
 use lib.Dec.{eqb, leb}
 use lib.ListN.{length, getD, set, replicate, length-set}
 use lib.Seq.{getD-set-same, getD-set-other}
-use Rattle.std.proofs.shelf.Tests.{both-ways, cases-eq, cases-bool, cond-true, cond-false, cond-both, and-from, not-from-false, not-true, not-from-true, eqb-true, eq-eqb, ne-eqb, eqb-false, le-leb}
+use Rattle.std.proofs.shelf.Tests.{both-ways, cases-eq, cases-bool, and-from, not-from-false, eqb-true, ne-eqb, eqb-false, le-leb}
 use Rattle.std.specs.declared.option.Option.{Option}
 use Rattle.std.specs.declared.option.Option.the-variants.{Some, None}
 use Rattle.flash.specs.declared.chunks.Record.{Record}
@@ -20,12 +20,12 @@ use Rattle.rules.specs.Laws.{Unique, Same}
 use Rattle.rules.specs.Safety.{SafeAct, SafeRun, AllBlank, BlankTail, Sound, RoomFor, Cleaning-is-safe, Cleaning-makes-a-place}
 use Rattle.flash.specs.declared.chunks.Chunk.{Chunk}
 use Rattle.flash.specs.declared.chunks.Chunk.the-variants.{Blank, Damaged, Holds}
-use Rattle.flash.specs.Blocks.{consRecord, recordsOf, standing, putAt, eraseAt, allBlank}
+use Rattle.flash.specs.Blocks.{recordsOf, standing, putAt}
 use Rattle.rules.specs.declared.standings.Standing.{Standing}
 use Rattle.rules.specs.declared.standings.Standing.the-variants.{Blank as blankS, Open as openS, Closed as closedS}
-use Rattle.rules.proofs.Lists.{any-true, any-false, keep-among, keep-from}
+use Rattle.rules.proofs.Lists.{any-true, keep-among, keep-from}
 use Rattle.rules.proofs.Copies.{wanted-same}
-use Rattle.rules.proofs.Blocks.{set-in, set-cases, set-other, now-in, now-other, now-cases, put-keeps, put-cases, cons-rest}
+use Rattle.rules.proofs.Blocks.{set-in, now-in, now-other, put-keeps, put-cases, cons-rest}
 
 -- the lowest place that passes
 abbrev pub Where : {A : Type 0} → (A → Bool) → List A → Option ℕ → Type 0

@@ -1,10 +1,10 @@
 -- Reading depends only on which records stand. Assumes nothing.
-use Prim.Native.Nat.{ℕ, zero, suc, _+_, _≤_, _<_}
+use Prim.Native.Nat.{ℕ}
 use native.Mathlib.Omega.{arith}
-use mathlib.Core.Path.{_≡_, refl, sym, ap, subst, _∙_, fun-ext}
-use mathlib.Core.Logic.{_⊎_, inl, inr}
-use mathlib.Core.Bool.{Bool, true, false, not, _&&_, _||_, cond}
-use mathlib.Core.List.{List, [], _∷_}
+use mathlib.Core.Path.{_≡_, refl, ap, subst, _∙_}
+use mathlib.Core.Logic.{inl, inr}
+use mathlib.Core.Bool.{Bool, _&&_, cond}
+use mathlib.Core.List.{List, _∷_}
 use Rattle.std.specs.declared.option.Option.{Option}
 use Rattle.std.specs.declared.option.Option.the-variants.{Some, None}
 use Rattle.flash.specs.declared.chunks.Record.{Record}
@@ -14,7 +14,7 @@ use Rattle.rules.specs.Reading.{hides, hidden, header, headerOnly, headOf, dat
 use Rattle.rules.specs.Laws.{Unique, Same}
 use Rattle.rules.specs.declared.kinds.Kind.{Kind}
 use Rattle.rules.specs.declared.kinds.Kind.the-variants.{Data as dataK, Header as headerK, CutHeader as cutK, Marker as markerK, Other as otherK}
-use Rattle.rules.proofs.Lists.{any-from, any-same, newest-same, largest-same, largest-most, Newest}
+use Rattle.rules.proofs.Lists.{any-from, any-same, newest-same, largest-same, largest-most}
 
 module _ (rs rs′ : List Record) (u : Unique rs) (w : Same rs rs′) where
   tests-same : (t : Record → Bool) → any t rs ≡ any t rs′

@@ -3,11 +3,11 @@ use Prim.Native.Nat.{ℕ, zero, suc, _+_, _-_, _≤_, _<_}
 use native.Mathlib.Omega.{arith}
 use mathlib.Core.Path.{_≡_, refl, sym, ap, subst, _∙_}
 use mathlib.Core.Logic.{_⊎_, inl, inr}
-use mathlib.Core.Bool.{Bool, true, false, not, _&&_, _||_, cond}
+use mathlib.Core.Bool.{Bool, true, false, _&&_, cond}
 use mathlib.Core.List.{List, [], _∷_, _++_, map}
 use lib.Dec.{eqb, leb}
 use lib.ListN.{length, length-append, length-map}
-use Rattle.std.proofs.shelf.Tests.{both-ways, cases-bool, cases-eq, cond-true, cond-false, and-parts, leb-true, eq-eqb, ne-eqb}
+use Rattle.std.proofs.shelf.Tests.{both-ways, cases-eq, cond-true, cond-false, and-parts, leb-true, eq-eqb, ne-eqb}
 use Rattle.std.specs.declared.option.Option.{Option}
 use Rattle.std.specs.declared.option.Option.the-variants.{Some, None}
 use Rattle.flash.specs.declared.chunks.Record.{Record}
@@ -24,7 +24,7 @@ use Rattle.rules.proofs.Blocks.{among-left, among-right, among-cases}
 use Rattle.rules.proofs.Adding.{data-number}
 use Rattle.rules.proofs.Cleaning.{once-among, from-once}
 use Rattle.rules.proofs.Used.{keep-apart, once-apart}
-use Rattle.rules.proofs.Filed.{some-is, some-none, there-some, HeaderIn, DataIn, filed-view, header-filed, data-filed, header-of, chunk-of, HeaderAt, header-at, ChunkAt, chunk-at, FileAt, file-at, present-file, bytes-there}
+use Rattle.rules.proofs.Filed.{some-is, there-some, HeaderIn, DataIn, filed-view, header-filed, data-filed, header-of, chunk-of, header-at, chunk-at, FileAt, file-at, present-file, bytes-there}
 
 abbrev Slot : Type 0
 Slot = ℕ × ℕ

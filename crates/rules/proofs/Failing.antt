@@ -1,11 +1,9 @@
 -- Wherever the supply fails in a cleaning, the files are as they were. Assumes nothing.
-use Prim.Native.Nat.{ℕ, zero, suc}
+use Prim.Native.Nat.{ℕ}
 use mathlib.Core.Path.{_≡_, refl, sym, ap, subst, _∙_}
-use mathlib.Core.Logic.{_⊎_, inl, inr}
-use mathlib.Core.Bool.{Bool, true, false}
+use mathlib.Core.Logic.{inl, inr}
 use mathlib.Core.List.{List, [], _∷_, _++_}
-use lib.ListN.{length, getD, set}
-use native.Mathlib.Omega.{arith}
+use lib.ListN.{getD}
 use Rattle.std.specs.declared.option.Option.{Option}
 use Rattle.std.specs.declared.option.Option.the-variants.{Some, None}
 use Rattle.flash.specs.declared.chunks.Record.{Record}
@@ -15,9 +13,9 @@ use Rattle.rules.specs.Places.{Flash, Act, adding, copying, erasing, programme
 use Rattle.rules.specs.Laws.{Unique, Left}
 use Rattle.rules.specs.Safety.{SafeRun, MayHold, Cleaning-keeps-files}
 use Rattle.flash.specs.declared.chunks.Chunk.{Chunk}
-use Rattle.flash.specs.declared.chunks.Chunk.the-variants.{Blank, Damaged, Holds}
+use Rattle.flash.specs.declared.chunks.Chunk.the-variants.{Holds}
 use Rattle.flash.specs.Blocks.{allBlank, recordsOf, standing, putAt, eraseAt}
-use Rattle.rules.proofs.Blocks.{copying-keeps-files, erase-files, put-cases, set-cases, now-in, now-other}
+use Rattle.rules.proofs.Blocks.{copying-keeps-files, erase-files, put-cases, set-cases, now-other}
 use Rattle.rules.proofs.Cleaning.{cleaning-is-safe}
 
 -- no act of a cleaning adds

@@ -1,11 +1,11 @@
 -- The records that are in a file, and the parts of the files that they are. Assumes nothing.
-use Prim.Native.Nat.{ℕ, zero, suc, _+_, _≤_, _<_, max}
+use Prim.Native.Nat.{ℕ, _≤_, max}
 use native.Mathlib.Omega.{arith}
 use mathlib.Core.Path.{_≡_, refl, sym, ap, subst, _∙_}
 use mathlib.Core.Logic.{_⊎_, inl, inr}
-use mathlib.Core.Bool.{Bool, true, false, not, _&&_, _||_, cond}
-use mathlib.Core.List.{List, [], _∷_}
-use Rattle.std.proofs.shelf.Tests.{both-ways, cases-bool, cases-lt, cond-true, cond-false, and-parts, and-from, not-true, not-from-false}
+use mathlib.Core.Bool.{Bool, true, false, not, cond}
+use mathlib.Core.List.{List}
+use Rattle.std.proofs.shelf.Tests.{both-ways, cases-lt, cond-true, cond-false, and-parts, and-from, not-true, not-from-false}
 use Rattle.std.specs.declared.option.Option.{Option}
 use Rattle.std.specs.declared.option.Option.the-variants.{Some, None}
 use Rattle.flash.specs.declared.chunks.Record.{Record}
@@ -15,8 +15,8 @@ use Rattle.rules.specs.Reading.{header, headerOnly, headOf, dataOf, newest, ch
 use Rattle.rules.specs.Laws.{Unique}
 use Rattle.rules.specs.declared.kinds.Kind.{Kind}
 use Rattle.rules.specs.declared.kinds.Kind.the-variants.{Data as dataK, Header as headerK, CutHeader as cutK, Marker as markerK, Other as otherK}
-use Rattle.rules.proofs.Lists.{Newest, Found, newest-found, found-some, found-none}
-use Rattle.rules.proofs.Views.{HeadOf, DataOf, head-view, head-from, data-view, data-from, topped-from, topped-view, replaced-from, replaced-view}
+use Rattle.rules.proofs.Lists.{Found, newest-found, found-some}
+use Rattle.rules.proofs.Views.{DataOf, head-view, head-from, data-view, data-from, topped-from, topped-view, replaced-from, replaced-view}
 
 pub some-is : {A : Type 0} (x y : A) → Some x ≡ Some y → x ≡ y
 some-is x y e = cc

@@ -1,15 +1,13 @@
 -- What is wanted and in no file, and what follows for counting; copies, erases and standings. Assumes nothing.
-use Prim.Native.Nat.{ℕ, _≤_, _<_}
+use Prim.Native.Nat.{_<_}
 use native.Mathlib.Omega.{arith}
-use mathlib.Core.Path.{_≡_, refl, sym, ap, subst, _∙_}
-use mathlib.Core.Logic.{_⊎_, inl, inr}
-use mathlib.Core.Bool.{Bool, true, false, not, _&&_, _||_, cond}
-use mathlib.Core.List.{List, [], _∷_}
-use lib.ListN.{length, getD, set}
-use Rattle.std.proofs.shelf.Tests.{both-ways, and-parts, or-cases, not-true, not-from-true, and-left, and-right}
+use mathlib.Core.Path.{_≡_, refl, sym, ap, _∙_}
+use mathlib.Core.Logic.{inl, inr}
+use mathlib.Core.Bool.{Bool, true, false, not, _||_, cond}
+use mathlib.Core.List.{List}
+use lib.ListN.{length, set}
+use Rattle.std.proofs.shelf.Tests.{both-ways, and-parts, or-cases, not-from-true, and-left, and-right}
 use Rattle.flash.specs.declared.chunks.Record.{Record}
-use Rattle.flash.specs.declared.chunks.Chunk.{Chunk}
-use Rattle.flash.specs.Blocks.{recordsOf, standing}
 use Rattle.rules.specs.declared.kinds.Kind.{Kind}
 use Rattle.rules.specs.declared.kinds.Kind.the-variants.{Data as dataK, Header as headerK, CutHeader as cutK, Marker as markerK, Other as otherK}
 use Rattle.rules.specs.declared.standings.Standing.{Standing}
@@ -20,7 +18,7 @@ use Rattle.rules.specs.Reading.{files, usedBy, used, once, present, hides, hid
 use Rattle.rules.specs.Places.{moved}
 use Rattle.rules.specs.Laws.{Unique, Guards, Copies-count-once, Copies-use-nothing, Wanted-guards, All-wanted-are-used, Erasing-keeps-files, Standings-move, filledIf}
 use Rattle.rules.proofs.Lists.{any-true}
-use Rattle.rules.proofs.Views.{Hides, hides-view, hidden-from, topped-from, outmarked-from, older-view}
+use Rattle.rules.proofs.Views.{hides-view, hidden-from, topped-from, outmarked-from, older-view}
 use Rattle.rules.proofs.Copies.{files-same, wanted-same, inFile-same}
 use Rattle.rules.proofs.Blocks.{erase-files}
 use Rattle.rules.proofs.Room.{keep-all, all-in-file}

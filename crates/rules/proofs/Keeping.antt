@@ -1,16 +1,16 @@
 -- Contents that mount accepts stay so through copies and erases, done or failed. Assumes nothing.
-use Prim.Native.Nat.{ℕ, zero, suc, _+_, _-_, _*_, _≤_, _<_}
+use Prim.Native.Nat.{ℕ, zero, suc, _+_, _≤_, _<_}
 use native.Mathlib.Omega.{arith}
 use mathlib.Core.Path.{_≡_, refl, sym, ap, subst, _∙_, fun-ext}
 use mathlib.Core.Logic.{_⊎_, inl, inr}
-use mathlib.Core.Bool.{Bool, true, false, not, _&&_, _||_, cond}
+use mathlib.Core.Bool.{Bool, true, false}
 use mathlib.Core.List.{List, [], _∷_, _++_}
 use lib.Dec.{eqb}
-use lib.ListN.{length, getD, set, replicate, length-set}
+use lib.ListN.{length, getD, set, length-set}
 use lib.Seq.{getD-set-same, getD-set-other}
-use Rattle.std.proofs.shelf.Tests.{both-ways, cases-bool, cases-eq, and-left, and-right, not-from-true, eq-eqb}
+use Rattle.std.proofs.shelf.Tests.{cases-bool, cases-eq, and-left, and-right, not-from-true, eq-eqb}
 use Rattle.std.specs.declared.option.Option.{Option}
-use Rattle.std.specs.declared.option.Option.the-variants.{Some, None}
+use Rattle.std.specs.declared.option.Option.the-variants.{Some}
 use Rattle.flash.specs.declared.chunks.Record.{Record}
 use Rattle.rules.specs.Lists.{Among, keep, consIf}
 use Rattle.rules.specs.Records.{keepsRules}
@@ -24,8 +24,7 @@ use Rattle.rules.specs.Runs.{Shaped}
 use Rattle.flash.specs.declared.chunks.Chunk.{Chunk}
 use Rattle.flash.specs.declared.chunks.Chunk.the-variants.{Blank, Damaged, Holds}
 use Rattle.flash.specs.Blocks.{recordsOf, standing, putAt}
-use Rattle.rules.specs.declared.standings.Standing.{Standing}
-use Rattle.rules.specs.declared.standings.Standing.the-variants.{Blank as blankS, Open as openS, Closed as closedS}
+use Rattle.rules.specs.declared.standings.Standing.the-variants.{Blank as blankS, Closed as closedS}
 use Rattle.rules.proofs.Lists.{any-from}
 use Rattle.rules.proofs.Blocks.{set-cases, set-other, set-in, now-in, now-other, now-cases, put-keeps, put-cases, left-from, chunk-cases, isCopy}
 use Rattle.rules.proofs.Shrinking.{shrunk-files}

@@ -1,14 +1,14 @@
 -- A cleaning, and the acts that add a record: done or failed, the contents stay such as mount accepts. Assumes nothing.
-use Prim.Native.Nat.{ℕ, zero, suc, _+_, _-_, _*_, _≤_, _<_}
+use Prim.Native.Nat.{ℕ, zero, suc, _+_, _≤_, _<_}
 use native.Mathlib.Omega.{arith}
-use mathlib.Core.Path.{_≡_, refl, sym, ap, subst, _∙_, fun-ext}
+use mathlib.Core.Path.{_≡_, refl, sym, ap, subst, _∙_}
 use mathlib.Core.Logic.{_⊎_, inl, inr}
-use mathlib.Core.Bool.{Bool, true, false, not, _&&_, _||_, cond}
+use mathlib.Core.Bool.{Bool, true, false, not, cond}
 use mathlib.Core.List.{List, [], _∷_, _++_}
-use lib.Dec.{eqb, ltb, leb}
-use lib.ListN.{length, getD, set, replicate, length-set, List·getD-eq-default}
+use lib.Dec.{leb}
+use lib.ListN.{length, getD, set, replicate, length-set}
 use lib.Seq.{getD-set-same, getD-set-other}
-use Rattle.std.proofs.shelf.Tests.{both-ways, cases-bool, cases-eq, cases-lt, and-parts, leb-true, leb-false, cond-true, cond-false}
+use Rattle.std.proofs.shelf.Tests.{cases-eq, and-parts, leb-true, leb-false}
 use Rattle.std.specs.declared.option.Option.{Option}
 use Rattle.std.specs.declared.option.Option.the-variants.{Some, None}
 use Rattle.flash.specs.declared.chunks.Record.{Record}
@@ -21,20 +21,15 @@ use Rattle.rules.specs.Safety.{SafeAct, Sound, RoomFor}
 use Rattle.rules.specs.Machine.{Breaks}
 use Rattle.rules.specs.Runs.{Takes, TakesAll}
 use Rattle.flash.specs.declared.chunks.Chunk.{Chunk}
-use Rattle.flash.specs.declared.chunks.Chunk.the-variants.{Blank, Damaged, Holds}
-use Rattle.flash.specs.Blocks.{recordsOf, standing, putAt, eraseAt, allBlank}
+use Rattle.flash.specs.declared.chunks.Chunk.the-variants.{Blank, Holds}
+use Rattle.flash.specs.Blocks.{recordsOf, standing, allBlank}
 use Rattle.rules.specs.declared.standings.Standing.{Standing}
 use Rattle.rules.specs.declared.standings.Standing.the-variants.{Blank as blankS, Open as openS, Closed as closedS}
-use Rattle.rules.proofs.Blocks.{now-in, put-keeps, put-cases}
-use Rattle.rules.proofs.Copies.{files-same, wanted-same}
-use Rattle.rules.proofs.Shrinking.{shrunk-files}
-use Rattle.rules.proofs.Changes.{adding-is-right}
-use Rattle.rules.proofs.Counting.{used-by-files}
-use Rattle.rules.proofs.Room.{some-block-is-light}
+use Rattle.rules.proofs.Copies.{wanted-same}
 use Rattle.rules.proofs.Failing.{left-blank}
-use Rattle.rules.proofs.Cleaning.{Where, found, found-at, Spot, SpotAt, spot, soundAfter, open-is, blank-is, Copied, LeastAt, least-at, Next, next, done, erasable, closed-in, inLoad, runs-append, adding-stands, cleaning-makes-a-place, count-set, first-blank, blanks-all, all-tail, blanks-long}
+use Rattle.rules.proofs.Cleaning.{Where, found, found-at, Spot, SpotAt, spot, open-is, blank-is, Copied, LeastAt, least-at, Next, next, done, erasable, closed-in, inLoad, runs-append, first-blank, blanks-all, all-tail}
 use Rattle.rules.proofs.Tidy.{Tidy, pair-is, Opened, open-place, none-opened, first-opened, tidy-copies, tidy-erase}
-use Rattle.rules.proofs.Keeping.{FilesOk, Way, Good, files-ok, Sized, sized, sized-set, sized-put, same-shrunk, good-shrunk, load-none, erase-shrunk, erase-good, Leaves, Backed, Copying, Broke, copies-break}
+use Rattle.rules.proofs.Keeping.{Good, Sized, sized, sized-set, sized-put, same-shrunk, good-shrunk, load-none, erase-shrunk, erase-good, Broke, copies-break}
 
 pub some-is : {A : Type 0} (x y : A) → Some x ≡ Some y → x ≡ y
 some-is x y e = cc

@@ -3,18 +3,17 @@ use Prim.Native.Nat.{ℕ, zero, suc, _+_, _-_, _*_, _≤_, _<_}
 use native.Mathlib.Omega.{arith}
 use mathlib.Core.Path.{_≡_, refl, sym, ap, subst, _∙_, fun-ext}
 use mathlib.Core.Logic.{_⊎_, inl, inr}
-use mathlib.Core.Bool.{Bool, true, false, not, _&&_, _||_, cond}
+use mathlib.Core.Bool.{Bool, true, not}
 use mathlib.Core.List.{List, [], _∷_, _++_}
-use lib.Dec.{eqb, ltb, leb}
-use lib.ListN.{length, getD, set, replicate, length-set, List·getD-eq-default}
-use lib.Seq.{getD-set-same, getD-set-other}
-use Rattle.std.proofs.shelf.Tests.{both-ways, cases-bool, cases-eq, cases-lt}
+use lib.ListN.{length, getD, set, length-set, List·getD-eq-default}
+use lib.Seq.{getD-set-other}
+use Rattle.std.proofs.shelf.Tests.{cases-eq, cases-lt}
 use Rattle.std.specs.declared.option.Option.{Option}
 use Rattle.std.specs.declared.option.Option.the-variants.{Some, None}
 use Rattle.flash.specs.declared.chunks.Record.{Record}
 use Rattle.rules.specs.Lists.{Among, firstWhere, count}
 use Rattle.rules.specs.Records.{keepsRules}
-use Rattle.rules.specs.Reading.{wanted, files, used, Files, usedBy}
+use Rattle.rules.specs.Reading.{files, used, Files, usedBy}
 use Rattle.rules.specs.Places.{isBlankS, isOpenS, Flash, Act, adding, runs, programmed, load, toClean, clean, addPlace, isProgram, addOr, plan}
 use Rattle.rules.specs.Mounting.{limit}
 use Rattle.rules.specs.Calls.{Call, recordBy}
@@ -24,7 +23,7 @@ use Rattle.rules.specs.Safety.{Failed}
 use Rattle.rules.specs.Machine.{Breaks}
 use Rattle.rules.specs.Runs.{TakesAll, Finds}
 use Rattle.flash.specs.declared.chunks.Chunk.{Chunk}
-use Rattle.flash.specs.declared.chunks.Chunk.the-variants.{Blank, Damaged, Holds}
+use Rattle.flash.specs.declared.chunks.Chunk.the-variants.{Holds}
 use Rattle.flash.specs.Blocks.{recordsOf, standing, putAt}
 use Rattle.rules.specs.declared.standings.Standing.{Standing}
 use Rattle.rules.specs.declared.standings.Standing.the-variants.{Blank as blankS, Open as openS, Closed as closedS}
@@ -34,11 +33,11 @@ use Rattle.rules.proofs.Shrinking.{shrunk-files}
 use Rattle.rules.proofs.Changes.{adding-is-right}
 use Rattle.rules.proofs.Counting.{used-by-files}
 use Rattle.rules.proofs.Room.{some-block-is-light}
-use Rattle.rules.proofs.Cleaning.{Where, found, found-at, Spot, soundAfter, open-is, blank-is, runs-append, adding-stands, cleaning-makes-a-place}
+use Rattle.rules.proofs.Cleaning.{Where, found, found-at, soundAfter, blank-is, runs-append, adding-stands, cleaning-makes-a-place}
 use Rattle.rules.proofs.Filed.{there-some}
 use Rattle.rules.proofs.Tidy.{tidy-program}
-use Rattle.rules.proofs.Keeping.{FilesOk, Way, Good, files-ok, Sized, sized, sized-put, same-shrunk, good-shrunk, load-none, Leaves, Broke}
-use Rattle.rules.proofs.Placing.{some-is, some-none, closed-blank, open-blank, blank-open, breaks-append, count-append, first-there, none-recs, second, sizes-view, Taken, taken-is, some-taken, Live, Cleaned, cleaned, takes-spot, takes-append, HasBlank, PlaceIs, place-is, no-place}
+use Rattle.rules.proofs.Keeping.{FilesOk, Way, Good, files-ok, Sized, sized, sized-put, good-shrunk, load-none, Leaves, Broke}
+use Rattle.rules.proofs.Placing.{breaks-append, count-append, first-there, none-recs, sizes-view, Taken, taken-is, some-taken, Live, Cleaned, cleaned, takes-spot, takes-append, HasBlank, PlaceIs, place-is, no-place}
 
 -- a change's record, files and bounds, as its checks leave them
 pub record Fit (w n p k : ℕ) (fs : Files) (call : Call) : Type 0 where

@@ -1,12 +1,12 @@
 -- A record that is not wanted can go, with all its copies: the files stay, and what else is not wanted stays so. Assumes nothing.
-use Prim.Native.Nat.{ℕ, zero, suc, _+_, _≤_, _<_}
+use Prim.Native.Nat.{ℕ, _≤_, _<_}
 use native.Mathlib.Omega.{arith}
-use mathlib.Core.Path.{_≡_, refl, sym, ap, subst, _∙_, fun-ext}
+use mathlib.Core.Path.{_≡_, refl, sym, ap, subst, _∙_}
 use mathlib.Core.Logic.{_⊎_, inl, inr}
-use mathlib.Core.Bool.{Bool, true, false, not, _&&_, _||_, cond}
-use mathlib.Core.List.{List, [], _∷_}
+use mathlib.Core.Bool.{Bool, true, false, not, _&&_, cond}
+use mathlib.Core.List.{List}
 use lib.Dec.{eqb}
-use Rattle.std.proofs.shelf.Tests.{both-ways, cases-eq, cases-bool, cond-true, cond-false, cond-both, and-parts, and-from, or-cases, or-left, or-right, not-true, not-from-false, eqb-true, eq-eqb, ne-eqb, not-from-true}
+use Rattle.std.proofs.shelf.Tests.{both-ways, cases-eq, cases-bool, cond-true, cond-false, cond-both, and-parts, and-from, or-cases, or-left, or-right, not-true, not-from-false, eq-eqb, ne-eqb, not-from-true}
 use Rattle.std.specs.declared.option.Option.{Option}
 use Rattle.std.specs.declared.option.Option.the-variants.{Some, None}
 use Rattle.flash.specs.declared.chunks.Record.{Record}
@@ -16,7 +16,7 @@ use Rattle.rules.specs.Reading.{hides, hidden, header, headerOnly, headOf, dat
 use Rattle.rules.specs.Laws.{Unique}
 use Rattle.rules.specs.declared.kinds.Kind.{Kind}
 use Rattle.rules.specs.declared.kinds.Kind.the-variants.{Data as dataK, Header as headerK, CutHeader as cutK, Marker as markerK, Other as otherK}
-use Rattle.rules.proofs.Lists.{keep-among, keep-from, any-from, any-false, any-none, any-true, any-same, newest-found, found-none, found-some, largest-least, largest-most, Newest, Found}
+use Rattle.rules.proofs.Lists.{keep-among, keep-from, any-from, any-false, any-true, any-same, newest-found, found-none, found-some, largest-least, largest-most, Newest, Found}
 use Rattle.rules.proofs.Views.{Hides, HeadOf, DataOf, hides-view, hides-from, head-view, head-from, data-view, data-from, marker-no-header, hidden-view, hidden-from, topped-view, topped-from, replaced-view, replaced-from, outmarked-view, outmarked-from, older-view, older-from, idle-header, idle-cut, idle-marker, idle-data}
 
 -- all but the records with the serial of u

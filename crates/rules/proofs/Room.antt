@@ -3,11 +3,11 @@ use Prim.Native.Nat.{ℕ, zero, suc, _+_, _*_, _≤_, _<_}
 use native.Mathlib.Omega.{arith}
 use mathlib.Core.Path.{_≡_, refl, sym, ap, subst, _∙_}
 use mathlib.Core.Logic.{_⊎_, inl, inr}
-use mathlib.Core.Bool.{Bool, true, false, not, _&&_, _||_}
+use mathlib.Core.Bool.{Bool, true, false, not}
 use mathlib.Core.List.{List, [], _∷_, _++_}
 use lib.Dec.{eqb}
 use lib.ListN.{length, getD, set, length-append, List·getD-eq-default}
-use Rattle.std.proofs.shelf.Tests.{both-ways, cases-eq, cases-lt, and-parts, or-cases, not-true, not-false, not-from-true, eqb-true, eq-eqb}
+use Rattle.std.proofs.shelf.Tests.{both-ways, cases-eq, cases-lt, and-parts, or-cases, not-true, not-from-true, eqb-true, eq-eqb}
 use Rattle.flash.specs.declared.chunks.Record.{Record}
 use Rattle.rules.specs.Lists.{Among, any, keep, consIf}
 use Rattle.rules.specs.Records.{kind, object, isData, isMarker}
@@ -19,9 +19,9 @@ use Rattle.flash.specs.declared.chunks.Chunk.the-variants.{Blank, Damaged, Hold
 use Rattle.flash.specs.Blocks.{consRecord, recordsOf, standing}
 use Rattle.rules.specs.declared.kinds.Kind.{Kind}
 use Rattle.rules.specs.declared.kinds.Kind.the-variants.{Data as dataK, Header as headerK, CutHeader as cutK, Marker as markerK, Other as otherK}
-use Rattle.rules.proofs.Lists.{any-true, any-from, any-false}
-use Rattle.rules.proofs.Views.{Hides, HeadOf, DataOf, hides-view, hidden-from, topped-from, outmarked-from, older-view}
-use Rattle.rules.proofs.Blocks.{among-cases, among-right, now-in, now-cases}
+use Rattle.rules.proofs.Lists.{any-true, any-false}
+use Rattle.rules.proofs.Views.{hides-view, hidden-from, topped-from, outmarked-from, older-view}
+use Rattle.rules.proofs.Blocks.{among-cases, among-right}
 
 -- how much a filter keeps
 module _ {A : Type 0} (t : A → Bool) where

@@ -1,20 +1,19 @@
 -- Any number of records that are not wanted can go at once. Assumes nothing.
-use Prim.Native.Nat.{ℕ, zero, suc, _+_, _≤_, _<_}
-use native.Mathlib.Omega.{arith}
+use Prim.Native.Nat.{ℕ}
 use mathlib.Core.Path.{_≡_, refl, sym, ap, subst, _∙_}
-use mathlib.Core.Logic.{_⊎_, inl, inr}
-use mathlib.Core.Bool.{Bool, true, false, not, _&&_, _||_, cond}
+use mathlib.Core.Logic.{inl, inr}
+use mathlib.Core.Bool.{Bool, true, false, not}
 use mathlib.Core.List.{List, [], _∷_}
 use lib.Dec.{eqb}
-use Rattle.std.proofs.shelf.Tests.{both-ways, cases-bool, not-true, not-from-false, not-from-true, eqb-true, eq-eqb}
+use Rattle.std.proofs.shelf.Tests.{cases-bool, not-true, not-from-false, eqb-true, eq-eqb}
 use Rattle.flash.specs.declared.chunks.Record.{Record}
 use Rattle.rules.specs.Lists.{Among, any, keep}
 use Rattle.rules.specs.Reading.{files, wanted}
 use Rattle.rules.specs.Laws.{Unique, Same, Shrunk}
 use Rattle.rules.proofs.Removal.{without}
-use Rattle.rules.proofs.Lists.{any-true, any-from, any-false, any-none, keep-among, keep-from}
+use Rattle.rules.proofs.Lists.{any-true, any-false, keep-among, keep-from}
 use Rattle.rules.proofs.Copies.{files-same, wanted-same}
-use Rattle.rules.proofs.Removal.{Without, without-keep, unwanted-can-go}
+use Rattle.rules.proofs.Removal.{without-keep, unwanted-can-go}
 
 abbrev pub serialIn : List Record → Record → Bool
 serialIn rs r = any (λ s. eqb (s .tag .serial) (r .tag .serial)) rs

@@ -1,22 +1,22 @@
 -- Each call keeps the files right and the contents such as mount accepts; and so do whole runs. Assumes nothing.
-use Prim.Native.Nat.{ℕ, zero, suc, _+_, _-_, _*_, _≤_, _<_, max}
+use Prim.Native.Nat.{ℕ, zero, suc, _+_, _≤_, _<_}
 use native.Mathlib.Omega.{arith}
-use mathlib.Core.Path.{_≡_, refl, sym, ap, subst, _∙_, fun-ext}
+use mathlib.Core.Path.{_≡_, refl, sym, ap, subst, _∙_}
 use mathlib.Core.Logic.{_⊎_, inl, inr}
-use mathlib.Core.Bool.{Bool, true, false, not, _&&_, _||_, cond}
+use mathlib.Core.Bool.{Bool, true, false, not}
 use mathlib.Core.List.{List, [], _∷_, _++_, map}
 use lib.Dec.{eqb, ltb, leb}
-use lib.ListN.{length, getD, replicate}
-use Rattle.std.proofs.shelf.Tests.{both-ways, cases-bool, cases-eq, and-cases, not-true, not-false, or-cases, eqb-true, eq-eqb, ltb-true, ltb-false, lt-ltb, le-ltb, cond-true, cond-false, cond-both, and-parts, leb-true}
+use lib.ListN.{length, getD}
+use Rattle.std.proofs.shelf.Tests.{both-ways, and-cases, not-false, or-cases, eqb-true, ltb-true, cond-both, and-parts, leb-true}
 use Rattle.std.specs.declared.option.Option.{Option}
 use Rattle.std.specs.declared.option.Option.the-variants.{Some, None}
 use Rattle.flash.specs.declared.chunks.Record.{Record}
 use Rattle.rules.specs.Lists.{Among, any, keep, isThere, firstWhere, within}
 use Rattle.rules.specs.Reading.{present, files, File, Files}
 use Rattle.rules.specs.Places.{isBlankS, isOpenS, Flash, Act, runs, load, toClean, clean}
-use Rattle.rules.specs.Mounting.{mounted, mountedBlock, sameRec}
+use Rattle.rules.specs.Mounting.{mounted, mountedBlock, sameRecord}
 use Rattle.rules.specs.Calls.{Call, create, put, cut, rename, delete, opens, closes, collect, mount, recordOf, next}
-use Rattle.rules.specs.Right.{accepted, changed, fresh, withPart, shortened, renamed, after, right}
+use Rattle.rules.specs.Right.{accepted, changed, fresh, withPart, shortened, renamed, after}
 use Rattle.rules.specs.Refusals.{Store, recs, isOpen, someLight, earlyTable, roomTable, refusal}
 use Rattle.rules.specs.Machine.{acts, Answer, refused, counted, collected, granted, broken, IsChange, IsCollect, actsOf, Breaks, withFlash, withOpened, whenRefused, Granted, Stopped, Step, taken}
 use Rattle.flash.specs.declared.chunks.Chunk.{Chunk}
@@ -25,15 +25,15 @@ use Rattle.rules.specs.declared.standings.Standing.{Standing}
 use Rattle.rules.specs.declared.standings.Standing.the-variants.{Blank as blankS, Open as openS, Closed as closedS}
 use Rattle.rules.proofs.Lists.{any-true, any-from, any-false, any-none, keep-from, largest-most}
 use Rattle.rules.proofs.Shrinking.{shrunk-files}
-use Rattle.rules.proofs.Cleaning.{Where, found, found-at, open-is}
+use Rattle.rules.proofs.Cleaning.{found-at, open-is}
 use Rattle.rules.proofs.Mounts.{mounted-sound, none-open}
 use Rattle.rules.proofs.Filed.{present-file}
 use Rattle.rules.proofs.Tidy.{tidy-mounted}
-use Rattle.rules.proofs.Keeping.{Good, Broke}
-use Rattle.rules.proofs.Placing.{some-none, Taken, taken-is, some-taken, Live, Cleaned, cleaned, HasBlank, first-there}
+use Rattle.rules.proofs.Keeping.{Good}
+use Rattle.rules.proofs.Placing.{some-none, taken-is, some-taken, Live, Cleaned, cleaned, HasBlank}
 use Rattle.rules.proofs.Planning.{Fit, Stage, Added, Ends, plan-ends, idle}
-use Rattle.rules.proofs.Accepts.{mount-good, good-mount, rec-true, rec-self}
-use Rattle.rules.proofs.Checks.{Clear, clear-all, clear-none, fit-create, fit-put, fit-cut, fit-rename, fit-delete}
+use Rattle.rules.proofs.Accepts.{rec-true, rec-self}
+use Rattle.rules.proofs.Checks.{clear-all, fit-create, fit-put, fit-cut, fit-rename, fit-delete}
 
 -- what Holds of a store: of its contents always, of its standings and open files while it runs
 pub record Inv (w : ℕ) (s : Store) : Type 0 where
@@ -169,7 +169,7 @@ module _ (w : ℕ) (big : 2048 ≤ w) (s : Store) (inv : Inv w s) where
   }
 
   broken-change : (t : Store) (x : Act) (call : Call) → IsChange call → refusal s call ≡ 0 → Breaks (s .flash) (actsOf w (s .flash) call) x (t .flash .blocks) → Stopped s t
-      → Stepped w s t call (any (sameRec (recordOf w (recs s) call)) (recs t))
+      → Stepped w s t call (any (sameRecord (recordOf w (recs s) call)) (recs t))
   broken-change t x call ch e br st = off-step t call _ st (ad .good) (elim (ad .either) [ inl h ↦ with′ h | inr h ↦ without′ h ])
     where
       rec : Record
@@ -178,15 +178,15 @@ module _ (w : ℕ) (big : 2048 ≤ w) (s : Store) (inv : Inv w s) where
       ad : Added w (s .n) (s .p) (next (recs s)) (files (recs s)) call (t .flash .blocks)
       ad = ends call ch e .breaks x (t .flash .blocks) br
 
-      with′ : Among (recordOf w (recs s) call) (recs t) × ((o : ℕ) → files (recs t) o ≡ accepted (files (recs s)) call o) → (o : ℕ) → files (recs t) o ≡ after (files (recs s)) (record { call = call; taken = any (sameRec (recordOf w (recs s) call)) (recs t) }) o
+      with′ : Among (recordOf w (recs s) call) (recs t) × ((o : ℕ) → files (recs t) o ≡ accepted (files (recs s)) call o) → (o : ℕ) → files (recs t) o ≡ after (files (recs s)) (record { call = call; taken = any (sameRecord (recordOf w (recs s) call)) (recs t) }) o
       with′ h o =
           h .1 o ∙ ap (λ (b : Bool). after (files (recs s)) (record { call = call; taken = b }) o)
-          (sym (any-from (sameRec (recordOf w (recs s) call)) (recs t) (recordOf w (recs s) call) (h .0) (rec-self (recordOf w (recs s) call))))
+          (sym (any-from (sameRecord (recordOf w (recs s) call)) (recs t) (recordOf w (recs s) call) (h .0) (rec-self (recordOf w (recs s) call))))
 
-      without′ : (Among (recordOf w (recs s) call) (recs t) → ⊥) × ((o : ℕ) → files (recs t) o ≡ files (recs s) o) → (o : ℕ) → files (recs t) o ≡ after (files (recs s)) (record { call = call; taken = any (sameRec (recordOf w (recs s) call)) (recs t) }) o
+      without′ : (Among (recordOf w (recs s) call) (recs t) → ⊥) × ((o : ℕ) → files (recs t) o ≡ files (recs s) o) → (o : ℕ) → files (recs t) o ≡ after (files (recs s)) (record { call = call; taken = any (sameRecord (recordOf w (recs s) call)) (recs t) }) o
       without′ h o =
           h .1 o ∙ ap (λ (b : Bool). after (files (recs s)) (record { call = call; taken = b }) o)
-          (sym (any-none (sameRec (recordOf w (recs s) call)) (recs t) (λ y a q. h .0 (subst (λ (z : Record). Among z (recs t)) (sym (rec-true (recordOf w (recs s) call) y q)) a))))
+          (sym (any-none (sameRecord (recordOf w (recs s) call)) (recs t) (λ y a q. h .0 (subst (λ (z : Record). Among z (recs t)) (sym (rec-true (recordOf w (recs s) call) y q)) a))))
 
   -- collect
   collect-on : refusal s collect ≡ 0 → s .running ≡ true
@@ -360,7 +360,7 @@ module _ (w : ℕ) (big : 2048 ≤ w) (s : Store) (inv : Inv w s) where
   granted-step mount t e g = subst (λ (z : Store). Stepped w s z mount true) (sym g) mount-step
 
   broken-step : (t : Store) (x : Act) (call : Call) → refusal s call ≡ 0 → Breaks (s .flash) (actsOf w (s .flash) call) x (t .flash .blocks) → Stopped s t
-      → Stepped w s t call (any (sameRec (recordOf w (recs s) call)) (recs t))
+      → Stepped w s t call (any (sameRecord (recordOf w (recs s) call)) (recs t))
   broken-step t x (create o name) e br st = broken-change t x (create o name) tt e br st
   broken-step t x (put o j bs) e br st = broken-change t x (put o j bs) tt e br st
   broken-step t x (cut o k) e br st = broken-change t x (cut o k) tt e br st

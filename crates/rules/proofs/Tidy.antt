@@ -1,11 +1,11 @@
 -- Standings tell the contents: one block at most is open, and a block stands Blank when all its chunks are. Assumes nothing.
-use Prim.Native.Nat.{ℕ, zero, suc, _+_, _≤_, _<_}
+use Prim.Native.Nat.{ℕ, zero, suc, _+_, _<_}
 use native.Mathlib.Omega.{arith}
 use mathlib.Core.Path.{_≡_, refl, sym, ap, subst, _∙_}
-use mathlib.Core.Logic.{_⊎_, inl, inr}
-use mathlib.Core.Bool.{Bool, true, false, cond}
+use mathlib.Core.Logic.{inl, inr}
+use mathlib.Core.Bool.{true, cond}
 use mathlib.Core.List.{List, [], _∷_, _++_, map}
-use lib.Dec.{eqb, leb}
+use lib.Dec.{eqb}
 use lib.ListN.{length, getD, set, replicate, length-set}
 use lib.Seq.{getD-set-same, getD-set-other}
 use Rattle.std.proofs.shelf.Tests.{cases-eq, cond-true}
@@ -17,14 +17,13 @@ use Rattle.flash.specs.declared.chunks.Chunk.the-variants.{Blank, Damaged, Hold
 use Rattle.rules.specs.Lists.{orElse, firstWhere}
 use Rattle.rules.specs.Records.{isBlank}
 use Rattle.rules.specs.Places.{isOpenS, Flash, erasing, runs, programmed, copies, copyAt, copyPlace, openPlace, blankPlace, blankIn, atBlock, does}
-use Rattle.rules.specs.Mounting.{mounted, mountedBlock, allBlankB}
+use Rattle.rules.specs.Mounting.{mounted, mountedBlock, blankBlock}
 use Rattle.rules.specs.Safety.{Sound, RoomFor}
-use Rattle.flash.specs.Blocks.{putAt}
 use Rattle.rules.specs.declared.standings.Standing.{Standing}
 use Rattle.rules.specs.declared.standings.Standing.the-variants.{Blank as blankS, Open as openS, Closed as closedS}
 use Rattle.rules.proofs.Cleaning.{Where, found, found-at, Spot, SpotAt, spot, open-is, Next, next}
 use Rattle.rules.proofs.Mounts.{none-open}
-use Rattle.rules.proofs.Filed.{some-is, some-none}
+use Rattle.rules.proofs.Filed.{some-is}
 
 pub record Tidy (p : ℕ) (s : Flash) : Type 0 where
   pub lone : (i j : ℕ) → getD (s .stand) i closedS ≡ openS → getD (s .stand) j closedS ≡ openS → i ≡ j
@@ -128,13 +127,13 @@ tidy-erase p s v t l = record {
       | inr q ↦ sym (getD-set-other (s .stand) v i blankS closedS q) ∙ x
     ]
 
-blanks : (p : ℕ) → allBlankB (replicate p Blank) ≡ true
+blanks : (p : ℕ) → blankBlock (replicate p Blank) ≡ true
 blanks zero = refl
 blanks (suc p) = blanks p
 
 mounted-blank : (p : ℕ) (bs : List (List Chunk)) (i : ℕ) → i < length bs → getD bs i [] ≡ replicate p Blank → getD (map mountedBlock bs) i closedS ≡ blankS
 mounted-blank p [] i l e = absurd (omega arith)
-mounted-blank p (x ∷ bs) zero l e = cond-true (allBlankB x) blankS closedS (ap allBlankB e ∙ blanks p)
+mounted-blank p (x ∷ bs) zero l e = cond-true (blankBlock x) blankS closedS (ap blankBlock e ∙ blanks p)
 mounted-blank p (x ∷ bs) (suc i) l e = mounted-blank p bs i (omega arith) e
 
 pub tidy-mounted : (p : ℕ) (bs : List (List Chunk)) → Tidy p (mounted bs)

@@ -1,12 +1,10 @@
 -- Where only what is not wanted has gone, the files use no more, and nothing is newly wanted. Assumes nothing.
-use Prim.Native.Nat.{ℕ, zero, suc, _≤_}
-use native.Mathlib.Omega.{arith}
-use mathlib.Core.Path.{_≡_, refl, sym, ap, subst, _∙_}
-use mathlib.Core.Logic.{_⊎_, inl, inr}
+use Prim.Native.Nat.{_≤_}
+use mathlib.Core.Path.{_≡_, refl, subst, _∙_}
+use mathlib.Core.Logic.{inl, inr}
 use mathlib.Core.Bool.{Bool, true, false, not}
 use mathlib.Core.List.{List, [], _∷_}
 use lib.Dec.{eqb}
-use lib.ListN.{length}
 use Rattle.std.proofs.shelf.Tests.{both-ways, cases-bool, not-true, not-from-false, not-from-true, eqb-true, eq-eqb}
 use Rattle.flash.specs.declared.chunks.Record.{Record}
 use Rattle.rules.specs.Lists.{Among, keep, consIf}
@@ -17,7 +15,7 @@ use Rattle.rules.proofs.Pigeons.{Apart}
 use Rattle.rules.proofs.Lists.{any-true, any-false, keep-among, keep-from}
 use Rattle.rules.proofs.Pigeons.{pigeons}
 use Rattle.rules.proofs.Copies.{inFile-same, wanted-same}
-use Rattle.rules.proofs.Removal.{Without, without-keep, unwanted-can-go, inFile-was, wanted-was}
+use Rattle.rules.proofs.Removal.{without-keep, inFile-was, wanted-was}
 use Rattle.rules.proofs.Shrinking.{shrunk-files, serialIn, lessAll, less-from, less-stay, less-gone, uniqueIn}
 use Rattle.rules.proofs.Cleaning.{once-among, from-once}
 

@@ -1,19 +1,18 @@
 -- The tests of the reading rule, each as the facts that it stands for. Assumes nothing.
-use Prim.Native.Nat.{ℕ, zero, suc, _+_, _≤_, _<_}
-use native.Mathlib.Omega.{arith}
-use mathlib.Core.Path.{_≡_, refl, sym, ap, subst, _∙_}
+use Prim.Native.Nat.{ℕ, _<_}
+use mathlib.Core.Path.{_≡_, refl}
 use mathlib.Core.Logic.{_⊎_, inl, inr}
-use mathlib.Core.Bool.{Bool, true, false, not, _&&_, _||_, cond}
+use mathlib.Core.Bool.{true, false, not, _&&_}
 use mathlib.Core.List.{List}
-use lib.Dec.{eqb, ltb, leb}
-use Rattle.std.proofs.shelf.Tests.{and-parts, and-from, and-cases, or-cases, or-left, or-right, or-parts, eqb-true, eq-eqb, ltb-true, lt-ltb, both-ways, not-false, not-true}
+use lib.Dec.{eqb}
+use Rattle.std.proofs.shelf.Tests.{and-parts, and-from, and-cases, or-cases, or-left, or-right, or-parts, eqb-true, eq-eqb, ltb-true, lt-ltb, both-ways, not-false}
 use Rattle.flash.specs.declared.chunks.Record.{Record}
 use Rattle.rules.specs.Lists.{Among}
 use Rattle.rules.specs.Records.{kind, object, isData, isHeader, isCut, isMarker, newer, sameObject}
 use Rattle.rules.specs.Reading.{hides, headOf, dataOf, hidden, topped, replaced, outmarked, hasOlder, hidesSome, present, wanted, wantedBy}
 use Rattle.rules.specs.declared.kinds.Kind.{Kind}
 use Rattle.rules.specs.declared.kinds.Kind.the-variants.{Data as dataK, Header as headerK, CutHeader as cutK, Marker as markerK, Other as otherK}
-use Rattle.rules.proofs.Lists.{any-true, any-from, any-false}
+use Rattle.rules.proofs.Lists.{any-true, any-from}
 
 pub record Hides (h d : Record) : Type 0 where
   pub isdata : isData (kind d) ≡ true

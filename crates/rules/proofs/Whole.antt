@@ -1,15 +1,13 @@
 -- The law of whole runs. Assumes nothing.
-use Prim.Native.Nat.{ℕ, zero, suc, _+_, _≤_, _<_}
+use Prim.Native.Nat.{ℕ, zero, suc, _≤_, _<_}
 use native.Mathlib.Omega.{arith}
 use mathlib.Core.Path.{_≡_, refl, sym, ap, subst, _∙_, fun-ext}
-use mathlib.Core.Logic.{_⊎_, inl, inr}
 use mathlib.Core.Bool.{Bool, true, false, not, cond}
-use mathlib.Core.List.{List, [], _∷_, _++_}
-use lib.Dec.{eqb, ltb}
+use mathlib.Core.List.{List, [], _∷_}
+use lib.Dec.{eqb}
 use Rattle.std.proofs.shelf.Tests.{both-ways, ltb-true, lt-ltb, le-ltb, cond-true, cond-false}
 use Rattle.std.specs.declared.option.Option.{Option}
 use Rattle.std.specs.declared.option.Option.the-variants.{Some, None}
-use Rattle.flash.specs.declared.chunks.Record.{Record}
 use Rattle.rules.specs.Lists.{keep, isThere, firstWhere}
 use Rattle.rules.specs.Reading.{files, Files, usedBy}
 use Rattle.rules.specs.Places.{isBlankS, isOpenS, Act, runs, clean, toClean, counts}
@@ -19,7 +17,6 @@ use Rattle.rules.specs.Right.{accepted, Made, after, right}
 use Rattle.rules.specs.Refusals.{Store, recs, tooMany, firstOf, earlyTable, roomTable, refusal}
 use Rattle.rules.specs.Machine.{Answer, refused, counted, collected, granted, broken, IsChange, IsCollect, Fills, actsOf, withFlash, withOpened, Step, Event, Run, lastOf, taken, madeOf}
 use Rattle.rules.specs.Runs.{Two-cleanings-suffice, Accepted-throughout, attached, TakesAll, Stands, Cheap, AllCheap, Holds, Steps-are-right, Holding-suffices, Kept, Runs-are-right}
-use Rattle.flash.specs.declared.chunks.Chunk.{Chunk}
 use Rattle.flash.specs.Blocks.{standing}
 use Rattle.rules.specs.declared.standings.Standing.{Standing}
 use Rattle.rules.specs.declared.standings.Standing.the-variants.{Blank as blankS, Open as openS, Closed as closedS}
@@ -31,7 +28,7 @@ use Rattle.rules.proofs.Tidy.{open-in, pair-is}
 use Rattle.rules.proofs.Placing.{Live, first-there}
 use Rattle.rules.proofs.Planning.{closed-at}
 use Rattle.rules.proofs.Accepts.{mount-good, good-mount}
-use Rattle.rules.proofs.Checks.{Clear, clear-all, clear-none}
+use Rattle.rules.proofs.Checks.{clear-all, clear-none}
 use Rattle.rules.proofs.Stepping.{Inv, Stepped, step, ends, collects}
 
 -- what an answer costs

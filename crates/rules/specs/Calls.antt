@@ -1,6 +1,6 @@
 -- The calls: the record that each change adds, and what the questions answer. Assumes nothing.
-use Prim.Native.Nat.{ℕ, zero, suc, _+_, _-_, _*_, _/_, _%_, min}
-use mathlib.Core.Bool.{Bool, true, false, not, cond}
+use Prim.Native.Nat.{ℕ, zero, suc, _+_, _-_, _/_, _%_, min}
+use mathlib.Core.Bool.{not, cond}
 use mathlib.Core.List.{List, [], _∷_, _++_}
 use lib.ListN.{length, getD, drop, replicate}
 use Rattle.std.specs.declared.option.Option.{Option}
@@ -11,8 +11,8 @@ use Rattle.flash.specs.Model.{tab}
 use Rattle.rules.specs.declared.rows.Row.{Row}
 use Rattle.rules.specs.Lists.{consIf, largest}
 use Rattle.rules.specs.Reading.{File, Files, files, size, named}
-use Rattle.rules.specs.Places.{Act, erasing, runs}
-use Rattle.rules.specs.Mounting.{allBlankB}
+use Rattle.rules.specs.Places.{Act, erasing}
+use Rattle.rules.specs.Mounting.{blankBlock}
 
 -- the nine calls of the law of whole runs, with their arguments
 pub data Call : Type 0 where
@@ -67,7 +67,7 @@ recordOf w rs call = recordBy w (next rs) (files rs) call
 -- format erases each block that is not blank, in rising order from block b on
 abbrev pub formats : ℕ → List (List Chunk) → List Act
 formats b [] = []
-formats b (x ∷ xs) = consIf (not (allBlankB x)) (erasing b) (formats (suc b) xs)
+formats b (x ∷ xs) = consIf (not (blankBlock x)) (erasing b) (formats (suc b) xs)
 
 -- the object numbers, rising
 abbrev pub upFrom : ℕ → ℕ → List ℕ

@@ -13,7 +13,7 @@ use Rattle.rules.specs.Lists.{Among}
 use Rattle.rules.specs.Records.{object, keepsRules}
 use Rattle.rules.specs.Reading.{files, wanted, present, used, inFile, usedBy, once}
 use Rattle.rules.specs.Places.{load, moved}
-use Rattle.rules.specs.Mounting.{allBlankB, mountedBlock}
+use Rattle.rules.specs.Mounting.{blankBlock, mountedBlock}
 use Rattle.rules.specs.Calls.{Call, create, put, cut, rename, delete, opens, closes, collect, mount, recordBy}
 use Rattle.rules.specs.Right.{accepted}
 use Rattle.flash.specs.declared.chunks.Chunk.{Chunk}
@@ -126,4 +126,4 @@ filledIf last x = cond last (moved Filled x) x
 pub record Standings-move : Type 0 where
   pub program : (x : Standing) (last : Bool) → (x ≡ closedS → ⊥) → filledIf last (moved Opened x) ≡ cond last closedS openS
   pub erase : (x : Standing) → moved Erased x ≡ blankS
-  pub mount′ : (x : Standing) (cs : List Chunk) → moved (Mounted (allBlankB cs)) x ≡ mountedBlock cs
+  pub mount′ : (x : Standing) (cs : List Chunk) → moved (Mounted (blankBlock cs)) x ≡ mountedBlock cs

@@ -1,27 +1,20 @@
 -- The store as a machine: what each of the nine calls may answer and leave. `w` is the number of data bytes of a chunk, 2,048. Assumes nothing.
-use Prim.Native.Nat.{ℕ, zero, suc, _+_, _≤_, _<_}
+use Prim.Native.Nat.{ℕ, _≤_}
 use mathlib.Core.Path.{_≡_}
 use mathlib.Core.Logic.{_⊎_}
 use mathlib.Core.Bool.{Bool, true, false, not}
-use mathlib.Core.List.{List, [], _∷_, _++_}
+use mathlib.Core.List.{List, [], _∷_}
 use lib.Dec.{eqb}
-use lib.ListN.{length, getD, replicate}
-use Rattle.std.specs.declared.option.Option.{Option}
-use Rattle.std.specs.declared.option.Option.the-variants.{Some, None}
-use Rattle.flash.specs.declared.chunks.Record.{Record}
-use Rattle.rules.specs.Lists.{any, keep, count}
-use Rattle.rules.specs.Reading.{files, chunk}
-use Rattle.rules.specs.Places.{plan, Flash, Act, adding, runs, programmed, clean, toClean, counts, does}
-use Rattle.rules.specs.Mounting.{mounted, sameRec}
+use Rattle.std.specs.declared.option.Option.the-variants.{Some}
+use Rattle.rules.specs.Lists.{any, keep}
+use Rattle.rules.specs.Places.{plan, Flash, Act, runs, clean, toClean, counts, does}
+use Rattle.rules.specs.Mounting.{mounted, sameRecord}
 use Rattle.rules.specs.Calls.{Call, create, put, cut, rename, delete, opens, closes, collect, mount, recordOf}
-use Rattle.rules.specs.Right.{accepted, Made, after}
+use Rattle.rules.specs.Right.{Made, after}
 use Rattle.rules.specs.Refusals.{Store, recs, refusal}
 use Rattle.rules.specs.Safety.{Failed}
 use Rattle.flash.specs.declared.chunks.Chunk.{Chunk}
-use Rattle.flash.specs.declared.chunks.Chunk.the-variants.{Blank, Damaged}
 use Rattle.flash.specs.Blocks.{standing}
-use Rattle.rules.specs.declared.standings.Standing.{Standing}
-use Rattle.rules.specs.declared.standings.Standing.the-variants.{Blank as blankS, Open as openS, Closed as closedS}
 
 -- what a call answers: a refusal's number; a change's two counts, chunks programmed and blocks erased; the block that collect cleaned and the
 -- number of its copies; nothing more, of open, close and mount; and 7, with the act at which the supply failed
@@ -154,7 +147,7 @@ taken w s call (refused k) t = false
 taken w s call (counted a b) t = true
 taken w s call (collected b k) t = true
 taken w s call granted t = true
-taken w s call (broken x) t = any (sameRec (recordOf w (recs s) call)) (recs t)
+taken w s call (broken x) t = any (sameRecord (recordOf w (recs s) call)) (recs t)
 
 abbrev pub madeOf : ℕ → Store → List Event → List Made
 madeOf w s [] = []

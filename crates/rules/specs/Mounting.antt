@@ -1,9 +1,8 @@
 -- Mounting: how blocks stand after it, and what it refuses. Assumes nothing.
-use Prim.Native.Nat.{ℕ, zero, suc, _+_, _-_, _*_}
+use Prim.Native.Nat.{ℕ, suc, _+_, _-_, _*_}
 use mathlib.Core.Bool.{Bool, true, false, not, _&&_, _||_, cond}
 use mathlib.Core.List.{List, [], _∷_, _++_, map}
 use lib.Dec.{eqb, ltb, leb}
-use lib.ListN.{length, getD, set}
 use Rattle.std.specs.declared.option.Option.{Option}
 use Rattle.std.specs.declared.option.Option.the-variants.{Some, None}
 use Rattle.flash.specs.declared.chunks.Record.{Record}
@@ -13,22 +12,23 @@ use Rattle.rules.specs.Lists.{any, orElse, within, sameBytes}
 use Rattle.rules.specs.Records.{isBlank, keepsRules}
 use Rattle.rules.specs.Reading.{files, usedBy, chunk, File, Files, anyObject, nameTaken}
 use Rattle.rules.specs.Places.{Flash, load}
-use Rattle.flash.specs.Blocks.{recordsOf, standing, putAt, eraseAt}
-use Rattle.rules.specs.declared.kinds.Kind.{Kind}
-use Rattle.rules.specs.declared.kinds.Kind.the-variants.{Data as dataK, Header as headerK, CutHeader as cutK, Marker as markerK, Other as otherK}
+use Rattle.flash.specs.Blocks.{standing}
 use Rattle.rules.specs.declared.standings.Standing.{Standing}
-use Rattle.rules.specs.declared.standings.Standing.the-variants.{Blank as blankS, Open as openS, Closed as closedS}
+use Rattle.rules.specs.declared.standings.Standing.the-variants.{Blank as blankS, Closed as closedS}
 
-abbrev pub allBlankB : List Chunk → Bool
-allBlankB [] = true
-allBlankB (c ∷ cs) = isBlank c && allBlankB cs
+-- every chunk of the block is blank
+abbrev pub blankBlock : List Chunk → Bool
+blankBlock [] = true
+blankBlock (c ∷ cs) = isBlank c && blankBlock cs
 
+-- mount leaves every block that is not blank closed
 abbrev pub mountedBlock : List Chunk → Standing
-mountedBlock cs = cond (allBlankB cs) blankS closedS
+mountedBlock cs = cond (blankBlock cs) blankS closedS
 
 abbrev pub mounted : List (List Chunk) → Flash
 mounted bs = record { blocks = bs; stand = map mountedBlock bs }
 
+-- 9 is for sizes other than these
 abbrev pub sizesFit : ℕ → ℕ → Bool
 sizesFit n p = within 3 64 n && (within 2 64 p && leb (n * p) 2048)
 
@@ -51,17 +51,20 @@ abbrev pub placed : ℕ → List (List Chunk) → List Placed
 placed b [] = []
 placed b (x ∷ xs) = placedIn b 0 x ++ placed (suc b) xs
 
-abbrev pub sameRec : Record → Record → Bool
-sameRec a b = eqb (a .tag .first) (b .tag .first) && (eqb (a .tag .second) (b .tag .second) && (eqb (a .tag .third) (b .tag .third) && (eqb (a .tag .serial) (b .tag .serial) && sameBytes (a .bytes) (b .bytes))))
+-- the four numbers and the data bytes are the same
+abbrev pub sameRecord : Record → Record → Bool
+sameRecord a b = eqb (a .tag .first) (b .tag .first) && (eqb (a .tag .second) (b .tag .second) && (eqb (a .tag .third) (b .tag .third) && (eqb (a .tag .serial) (b .tag .serial) && sameBytes (a .bytes) (b .bytes))))
 
 -- two unlike records with one serial
 abbrev pub unlike : Record → Record → Bool
-unlike a b = let same = sameRec a b in elim (eqb (a .tag .serial) (b .tag .serial)) [ true ↦ not same | false ↦ false ]
+unlike a b = let same = sameRecord a b in elim (eqb (a .tag .serial) (b .tag .serial)) [ true ↦ not same | false ↦ false ]
 
+-- the first place, in rising place, that passes the test
 abbrev pub firstPlaced : (Placed → Bool) → List Placed → Option (ℕ × ℕ)
 firstPlaced t [] = None
 firstPlaced t (q ∷ qs) = let later = firstPlaced t qs in orElse (cond (t q) (Some (q .block, q .chunk)) None) later
 
+-- 11: the first place whose record is unlike one before it with its serial
 abbrev pub firstClash : List Record → List Placed → Option (ℕ × ℕ)
 firstClash before [] = None
 firstClash before (q ∷ qs) = let later = firstClash (q .what ∷ before) qs in orElse (cond (any (unlike (q .what)) before) (Some (q .block, q .chunk)) None) later
@@ -74,16 +77,18 @@ sharesName fs o (Some f) = nameTaken fs o (f .name)
 unfoldable pub twoNamed : Files → Bool
 twoNamed fs = anyObject (λ o. sharesName fs o (fs o))
 
--- 13, 14
+-- 13: the files use over (N−1)×P−1 chunks
 unfoldable pub limit : ℕ → ℕ → ℕ
 limit n p = (n - 1) * p - 1
 
+-- some block has load 0
 abbrev pub someLoadless : List (List Chunk) → ℕ → List (List Chunk) → Bool
 someLoadless bs b [] = false
 someLoadless bs b (x ∷ xs) = eqb (load bs b) 0 || someLoadless bs (suc b) xs
 
+-- 14: no block is blank, and none has load 0
 unfoldable pub noWayOn : List (List Chunk) → Bool
-noWayOn bs = not (any allBlankB bs) && not (someLoadless bs 0 bs)
+noWayOn bs = not (any blankBlock bs) && not (someLoadless bs 0 bs)
 
 -- a refusal: its number, and the place of 10 and 11
 pub record Fault : Type 0 where
@@ -98,9 +103,9 @@ abbrev pub placedFault : ℕ → Option (ℕ × ℕ) → Option Fault
 placedFault k None = None
 placedFault k (Some q) = Some (record { number = k; at = Some q })
 
--- where several fit, the smallest number
-abbrev pub mountFault : ℕ → ℕ → List (List Chunk) → Option Fault
-mountFault n p bs =
+-- mount's verdict: None is acceptance; where several refusals fit, the smallest number
+abbrev pub verdict : ℕ → ℕ → List (List Chunk) → Option Fault
+verdict n p bs =
     let rs = standing bs in
     let e14 = plainIf (noWayOn bs) 14 in
     let e13 = orElse (plainIf (ltb (limit n p) (usedBy (files rs))) 13) e14 in

@@ -1,8 +1,8 @@
 -- How blocks stand, their load, finding a place for a record, and cleaning. Assumes nothing.
-use Prim.Native.Nat.{ℕ, zero, suc, _+_, _-_, _*_}
-use mathlib.Core.Bool.{Bool, true, false, not, _&&_, _||_, cond}
+use Prim.Native.Nat.{ℕ, zero, suc, _+_}
+use mathlib.Core.Bool.{Bool, true, false, not, _&&_, cond}
 use mathlib.Core.List.{List, [], _∷_, _++_}
-use lib.Dec.{eqb, ltb, leb}
+use lib.Dec.{eqb, leb}
 use lib.ListN.{length, getD, set}
 use Rattle.rules.specs.declared.standings.Event.{Event}
 use Rattle.rules.specs.declared.standings.Event.the-variants.{Opened, Filled, Erased, Mounted}
@@ -12,7 +12,7 @@ use Rattle.std.specs.declared.option.Option.{Option}
 use Rattle.std.specs.declared.option.Option.the-variants.{Some, None}
 use Rattle.flash.specs.declared.chunks.Record.{Record}
 use Rattle.flash.specs.declared.chunks.Chunk.{Chunk}
-use Rattle.flash.specs.declared.chunks.Chunk.the-variants.{Blank, Damaged, Holds}
+use Rattle.flash.specs.declared.chunks.Chunk.the-variants.{Holds}
 use Rattle.rules.specs.Lists.{any, keep, count, firstWhere, orElse}
 use Rattle.rules.specs.Records.{isBlank}
 use Rattle.rules.specs.Reading.{once, wanted}

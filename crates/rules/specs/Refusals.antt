@@ -1,5 +1,5 @@
 -- Which refusal each call answers: the first of its table whose condition Holds; 0 means none. Assumes nothing.
-use Prim.Native.Nat.{ℕ, zero, suc, _+_, _-_, _*_}
+use Prim.Native.Nat.{ℕ, suc, _+_}
 use mathlib.Core.Bool.{Bool, true, false, not, _&&_, _||_, cond}
 use mathlib.Core.List.{List, [], _∷_, _++_}
 use lib.Dec.{eqb, ltb, leb}
@@ -7,12 +7,11 @@ use lib.ListN.{length}
 use Rattle.std.specs.declared.option.Option.{Option}
 use Rattle.std.specs.declared.option.Option.the-variants.{Some, None}
 use Rattle.flash.specs.declared.chunks.Record.{Record}
-use Rattle.flash.specs.declared.chunks.Chunk.{Chunk}
 use Rattle.flash.specs.Blocks.{standing}
 use Rattle.rules.specs.Lists.{any, largest, within}
 use Rattle.rules.specs.Reading.{present, files, usedBy, nameTaken}
 use Rattle.rules.specs.Places.{isBlankS, Flash, load}
-use Rattle.rules.specs.Mounting.{sizesFit, limit, Fault, mountFault}
+use Rattle.rules.specs.Mounting.{sizesFit, limit, Fault, verdict}
 use Rattle.rules.specs.Calls.{Call, create, put, cut, rename, delete, opens, closes, collect, mount, longOf, rows}
 use Rattle.rules.specs.Right.{accepted}
 use Rattle.rules.specs.declared.standings.Standing.{Standing}
@@ -92,7 +91,7 @@ earlyTable s (delete o) =
 earlyTable s (opens o) = openTable s o
 earlyTable s (closes o) = closeTable s o
 earlyTable s collect = collectTable s
-earlyTable s mount = faultTable (mountFault (s .n) (s .p) (s .flash .blocks))
+earlyTable s mount = faultTable (verdict (s .n) (s .p) (s .flash .blocks))
 
 -- 27, of create and put
 abbrev pub roomTable : Store → Call → Table

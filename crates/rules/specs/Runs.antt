@@ -1,28 +1,24 @@
 -- What holds between calls, and the law of whole runs. `w` is the number of data bytes of a chunk, 2,048. Assumes nothing.
-use Prim.Native.Nat.{ℕ, zero, suc, _+_, _≤_, _<_}
+use Prim.Native.Nat.{ℕ, _+_, _≤_, _<_}
 use mathlib.Core.Path.{_≡_}
-use mathlib.Core.Logic.{_⊎_}
-use mathlib.Core.Bool.{Bool, true, false, not}
-use mathlib.Core.List.{List, [], _∷_, _++_}
-use lib.Dec.{eqb}
+use mathlib.Core.Bool.{Bool, true, false}
+use mathlib.Core.List.{List, [], _∷_}
 use lib.ListN.{length, getD, replicate}
-use Rattle.std.specs.declared.option.Option.{Option}
 use Rattle.std.specs.declared.option.Option.the-variants.{Some, None}
 use Rattle.flash.specs.declared.chunks.Record.{Record}
-use Rattle.rules.specs.Lists.{Among, any, isThere, count}
+use Rattle.rules.specs.Lists.{Among, isThere, count}
 use Rattle.rules.specs.Records.{isBlank}
 use Rattle.rules.specs.Reading.{files, present, Files, usedBy, chunk}
 use Rattle.rules.specs.Places.{Flash, Act, adding, copying, erasing, runs, programmed, load, clean, toClean, addPlace, counts, does}
-use Rattle.rules.specs.Mounting.{mounted, mountFault, limit}
-use Rattle.rules.specs.Calls.{Call, create, put, collect, mount, recordOf}
+use Rattle.rules.specs.Mounting.{mounted, verdict, limit}
+use Rattle.rules.specs.Calls.{Call, recordOf}
 use Rattle.rules.specs.Right.{accepted, after, right}
 use Rattle.rules.specs.Refusals.{Store, recs, isOpen, firstOf, earlyTable, refusal}
 use Rattle.rules.specs.Safety.{BlankTail}
-use Rattle.rules.specs.Machine.{Answer, IsChange, Fills, acts, actsOf, Breaks, Step, Event, Run, lastOf, taken, madeOf, refused, counted, collected, granted, broken}
+use Rattle.rules.specs.Machine.{Answer, IsChange, Fills, actsOf, Breaks, Step, Event, Run, lastOf, taken, madeOf, refused, counted, collected, granted, broken}
 use Rattle.flash.specs.declared.chunks.Chunk.{Chunk}
 use Rattle.flash.specs.declared.chunks.Chunk.the-variants.{Blank, Damaged}
 use Rattle.flash.specs.Blocks.{standing}
-use Rattle.rules.specs.declared.standings.Standing.{Standing}
 use Rattle.rules.specs.declared.standings.Standing.the-variants.{Blank as blankS, Open as openS, Closed as closedS}
 
 -- n blocks of p chunks, and w data bytes in each record
@@ -85,7 +81,7 @@ pub record Kept (w n p : ℕ) (rights : Files) (s : Store) : Type 0 where
   pub rightly : (o : ℕ) → files (recs s) o ≡ rights o
   -- (b) mount accepts the contents; and a create or put that no earlier check refuses is refused by 27 exactly when the right files with it done
   -- would use over (N−1)×P−1 chunks
-  pub mounts : mountFault n p (s .flash .blocks) ≡ None
+  pub mounts : verdict n p (s .flash .blocks) ≡ None
   pub only27 : (call : Call) → Fills call → firstOf (earlyTable s call) ≡ 0
       → (refusal s call ≡ 27 → limit n p < usedBy (accepted rights call)) × (limit n p < usedBy (accepted rights call) → refusal s call ≡ 27) × (usedBy (accepted rights call) ≤ limit n p → refusal s call ≡ 0)
   -- no call is stuck: one that is not refused has an answer that is not 7
@@ -118,14 +114,14 @@ AllCheap p (e ∷ es) = Cheap p (e .answer) × AllCheap p es
 
 -- the law: from any contents that mount accepts, after any calls with any answers that the chip rules allow
 abbrev pub Runs-are-right : ℕ → Type 0
-Runs-are-right w = (n p : ℕ) (on : Bool) (bs : List (List Chunk)) → Shaped w n p bs → mountFault n p bs ≡ None
+Runs-are-right w = (n p : ℕ) (on : Bool) (bs : List (List Chunk)) → Shaped w n p bs → verdict n p bs ≡ None
     → (es : List Event) → Run w (attached n p on bs) es
     → Kept w n p (right (files (standing bs)) (madeOf w (attached n p on bs) es)) (lastOf (attached n p on bs) es) × AllCheap p es
 
 -- what every call keeps: contents that mount accepts; and while the store runs, standings that tell them, and open files that are present
 pub record Holds (w : ℕ) (s : Store) : Type 0 where
   pub shaped : Shaped w (s .n) (s .p) (s .flash .blocks)
-  pub mounts : mountFault (s .n) (s .p) (s .flash .blocks) ≡ None
+  pub mounts : verdict (s .n) (s .p) (s .flash .blocks) ≡ None
   pub powered : s .running ≡ true → s .power ≡ true
   pub stands : s .running ≡ true → Stands (s .n) (s .p) (s .flash)
   pub held : s .running ≡ true → (o : ℕ) → isOpen s o ≡ true → present (recs s) o ≡ true
@@ -158,4 +154,4 @@ Two-cleanings-suffice w = (s : Store) → Holds w s → (call : Call) → IsChan
 -- wherever the supply fails in a call, mount accepts the contents
 abbrev pub Accepted-throughout : ℕ → Type 0
 Accepted-throughout w = (s : Store) → Holds w s → (call : Call) → refusal s call ≡ 0 → (x : Act) (bs′ : List (List Chunk)) → Breaks (s .flash) (actsOf w (s .flash) call) x bs′
-    → mountFault (s .n) (s .p) bs′ ≡ None
+    → verdict (s .n) (s .p) bs′ ≡ None

@@ -1,12 +1,11 @@
 -- When an act loses nothing, and what Holds of contents and standings between calls. Assumes nothing.
-use Prim.Native.Nat.{ℕ, zero, suc, _≤_, _<_}
+use Prim.Native.Nat.{ℕ, _≤_, _<_}
 use mathlib.Core.Path.{_≡_}
 use mathlib.Core.Logic.{_⊎_}
-use mathlib.Core.Bool.{Bool, true, false}
-use mathlib.Core.List.{List, [], _∷_, _++_}
+use mathlib.Core.Bool.{true}
+use mathlib.Core.List.{List, [], _∷_}
 use lib.ListN.{length, getD, set, replicate}
-use Rattle.std.specs.declared.option.Option.{Option}
-use Rattle.std.specs.declared.option.Option.the-variants.{Some, None}
+use Rattle.std.specs.declared.option.Option.the-variants.{Some}
 use Rattle.flash.specs.declared.chunks.Record.{Record}
 use Rattle.rules.specs.Lists.{Among, isThere, count, firstWhere}
 use Rattle.rules.specs.Records.{isBlank}
@@ -16,7 +15,6 @@ use Rattle.rules.specs.Laws.{Unique, Left}
 use Rattle.flash.specs.declared.chunks.Chunk.{Chunk}
 use Rattle.flash.specs.declared.chunks.Chunk.the-variants.{Blank, Damaged, Holds}
 use Rattle.flash.specs.Blocks.{recordsOf, standing, putAt}
-use Rattle.rules.specs.declared.standings.Standing.{Standing}
 use Rattle.rules.specs.declared.standings.Standing.the-variants.{Blank as blankS, Open as openS, Closed as closedS}
 
 -- a copy is of a record that stands, into a Blank chunk; what is wanted in a block that is erased stands elsewhere too

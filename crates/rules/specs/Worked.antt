@@ -1,7 +1,7 @@
 -- Cases worked on three blocks of four chunks of 2,048 bytes: one table, each row what is done, what is asked then, and what must come. Assumes nothing.
-use Prim.Native.Nat.{ℕ, zero, suc, _+_}
+use Prim.Native.Nat.{ℕ, _+_}
 use mathlib.Core.Path.{_≡_}
-use mathlib.Core.Bool.{Bool, true, false, not, _&&_, _||_, cond}
+use mathlib.Core.Bool.{Bool, true, false, not, _&&_}
 use mathlib.Core.List.{List, [], _∷_, _++_}
 use lib.Dec.{eqb}
 use lib.ListN.{getD, set, take, drop}
@@ -10,7 +10,7 @@ use Rattle.std.specs.declared.option.Option.the-variants.{Some, None}
 use Rattle.flash.specs.declared.chunks.Record.{Record}
 use Rattle.flash.specs.declared.chunks.Chunk.{Chunk}
 use Rattle.flash.specs.declared.chunks.Chunk.the-variants.{Blank, Damaged, Holds}
-use Rattle.flash.specs.Blocks.{standing, putAt, chunkAt}
+use Rattle.flash.specs.Blocks.{putAt, chunkAt}
 use Rattle.rules.specs.Lists.{Among, keep, isThere, sameBytes}
 use Rattle.rules.specs.Records.{object, kind, kindBy, keepsRules}
 use Rattle.rules.specs.Reading.{File, files, header, size, headOf, dataOf, hides, hidden, present, chunk, numberThere, highestChunk, usedOf, usedBy, anyObject, nameTaken, topped, replaced, outmarked, hasOlder, hidesSome, inFile, wanted, used}
