@@ -11,19 +11,19 @@ use Rattle.std.proofs.shelf.Tests.{both-ways, and-cases, not-false, or-cases, e
 use Rattle.std.specs.declared.option.Option.{Option}
 use Rattle.std.specs.declared.option.Option.the-variants.{Some, None}
 use Rattle.flash.specs.declared.chunks.Record.{Record}
-use Rattle.rules.specs.Lists.{Among, any, keep, isThere, firstWhere, within}
+use Rattle.rules.specs.Lists.{Among, any, isThere, firstWhere, within}
 use Rattle.rules.specs.Reading.{present, files, File, Files}
 use Rattle.rules.specs.Places.{isBlankS, isOpenS, Flash, Act, runs, load, toClean, clean}
 use Rattle.rules.specs.Mounting.{mounted, mountedBlock, sameRecord}
 use Rattle.rules.specs.Calls.{Call, create, put, cut, rename, delete, opens, closes, collect, mount, recordOf, next}
 use Rattle.rules.specs.Right.{accepted, changed, fresh, withPart, shortened, renamed, after}
 use Rattle.rules.specs.Refusals.{Store, recs, isOpen, someLight, earlyTable, roomTable, refusal}
-use Rattle.rules.specs.Machine.{acts, Answer, refused, counted, collected, granted, broken, IsChange, IsCollect, actsOf, Breaks, withFlash, withOpened, whenRefused, Granted, Stopped, Step, taken}
+use Rattle.rules.specs.Machine.{none, opening, closing, acts, Answer, refused, counted, collected, granted, broken, IsChange, IsCollect, actsOf, Breaks, withFlash, withOpened, whenRefused, Granted, Stopped, Step, taken}
 use Rattle.flash.specs.declared.chunks.Chunk.{Chunk}
 use Rattle.flash.specs.Blocks.{standing}
 use Rattle.rules.specs.declared.standings.Standing.{Standing}
 use Rattle.rules.specs.declared.standings.Standing.the-variants.{Blank as blankS, Open as openS, Closed as closedS}
-use Rattle.rules.proofs.Lists.{any-true, any-from, any-false, any-none, keep-from, largest-most}
+use Rattle.rules.proofs.Lists.{any-from, any-false, any-none, largest-most}
 use Rattle.rules.proofs.Shrinking.{shrunk-files}
 use Rattle.rules.proofs.Cleaning.{found-at, open-is}
 use Rattle.rules.proofs.Mounts.{mounted-sound, none-open}
@@ -267,7 +267,7 @@ module _ (w : ℕ) (big : 2048 ≤ w) (s : Store) (inv : Inv w s) where
       off-step t collect b st (k .good) (λ o. shrunk-right (t .flash .blocks) (k .shrunk) o ∙ either-way b (files (recs s)) o)
 
   -- open, close, mount
-  open-step : (o : ℕ) → refusal s (opens o) ≡ 0 → Stepped w s (withOpened s (o ∷ s .opened)) (opens o) true
+  open-step : (o : ℕ) → refusal s (opens o) ≡ 0 → Stepped w s (withOpened s (opening o (s .opened))) (opens o) true
   open-step o e =
       let cl = clear-all (earlyTable s (opens o) ++ roomTable s (opens o)) (omega arith) e in
       record {
@@ -275,7 +275,7 @@ module _ (w : ℕ) (big : 2048 ≤ w) (s : Store) (inv : Inv w s) where
           good = inv .good;
           powered = inv .powered;
           live = inv .live;
-          held = λ r k q. elim (or-cases (eqb k o) (any (eqb k) (s .opened)) q) [
+          held = λ r k q. elim (or-cases (eqb k o) (s .opened k) q) [
             | inl z ↦ ap (present (recs s)) (eqb-true k o z) ∙ not-false _ (cl .1 .1 .0)
             | inr z ↦ inv .held r k z
           ];
@@ -285,13 +285,13 @@ module _ (w : ℕ) (big : 2048 ≤ w) (s : Store) (inv : Inv w s) where
         sameP = refl;
       }
 
-  close-step : (o : ℕ) → Stepped w s (withOpened s (keep (λ q. not (eqb q o)) (s .opened))) (closes o) true
+  close-step : (o : ℕ) → Stepped w s (withOpened s (closing o (s .opened))) (closes o) true
   close-step o = record {
     inv = record {
       good = inv .good;
       powered = inv .powered;
       live = inv .live;
-      held = λ r k q. (let x = any-true (eqb k) (keep (λ z. not (eqb z o)) (s .opened)) q in inv .held r k (any-from (eqb k) (s .opened) (x .0) (keep-from (λ z. not (eqb z o)) (s .opened) (x .0) (x .1) .0) (x .2)));
+      held = λ r k q. inv .held r k (and-parts (not (eqb k o)) (s .opened k) q .1);
     };
     right′ = λ k. refl;
     sameN = refl;
@@ -299,7 +299,7 @@ module _ (w : ℕ) (big : 2048 ≤ w) (s : Store) (inv : Inv w s) where
   }
 
   abbrev remounted : Store
-  remounted = record { n = s .n; p = s .p; power = true; running = true; opened = []; flash = mounted (s .flash .blocks) }
+  remounted = record { n = s .n; p = s .p; power = true; running = true; opened = none; flash = mounted (s .flash .blocks) }
 
   mount-step : Stepped w s remounted mount true
   mount-step = record {

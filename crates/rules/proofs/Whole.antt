@@ -2,20 +2,19 @@
 use Prim.Native.Nat.{ℕ, zero, suc, _≤_, _<_}
 use native.Mathlib.Omega.{arith}
 use mathlib.Core.Path.{_≡_, refl, sym, ap, subst, _∙_, fun-ext}
-use mathlib.Core.Bool.{Bool, true, false, not, cond}
+use mathlib.Core.Bool.{Bool, true, false, cond}
 use mathlib.Core.List.{List, [], _∷_}
-use lib.Dec.{eqb}
 use Rattle.std.proofs.shelf.Tests.{both-ways, ltb-true, lt-ltb, le-ltb, cond-true, cond-false}
 use Rattle.std.specs.declared.option.Option.{Option}
 use Rattle.std.specs.declared.option.Option.the-variants.{Some, None}
-use Rattle.rules.specs.Lists.{keep, isThere, firstWhere}
+use Rattle.rules.specs.Lists.{isThere, firstWhere}
 use Rattle.rules.specs.Reading.{files, Files, usedBy}
 use Rattle.rules.specs.Places.{isBlankS, isOpenS, Act, runs, clean, toClean, counts}
 use Rattle.rules.specs.Mounting.{mounted, limit}
 use Rattle.rules.specs.Calls.{Call, create, put, cut, rename, delete, opens, closes, collect, mount}
 use Rattle.rules.specs.Right.{accepted, Made, after, right}
 use Rattle.rules.specs.Refusals.{Store, recs, tooMany, firstOf, earlyTable, roomTable, refusal}
-use Rattle.rules.specs.Machine.{Answer, refused, counted, collected, granted, broken, IsChange, IsCollect, Fills, actsOf, withFlash, withOpened, Step, Event, Run, lastOf, taken, madeOf}
+use Rattle.rules.specs.Machine.{none, opening, closing, Answer, refused, counted, collected, granted, broken, IsChange, IsCollect, Fills, actsOf, withFlash, withOpened, Step, Event, Run, lastOf, taken, madeOf}
 use Rattle.rules.specs.Runs.{Two-cleanings-suffice, Accepted-throughout, attached, TakesAll, Stands, Cheap, AllCheap, Holds, Steps-are-right, Holding-suffices, Kept, Runs-are-right}
 use Rattle.flash.specs.Blocks.{standing}
 use Rattle.rules.specs.declared.standings.Standing.{Standing}
@@ -131,10 +130,10 @@ goes-on w big s inv (put o j bs) e = goes-change w s (put o j bs) tt e
 goes-on w big s inv (cut o k) e = goes-change w s (cut o k) tt e
 goes-on w big s inv (rename o name) e = goes-change w s (rename o name) tt e
 goes-on w big s inv (delete o) e = goes-change w s (delete o) tt e
-goes-on w big s inv (opens o) e = (granted, withOpened s (o ∷ s .opened), (e, refl), not-broken _ tt)
-goes-on w big s inv (closes o) e = (granted, withOpened s (keep (λ q. not (eqb q o)) (s .opened)), (e, refl), not-broken _ tt)
+goes-on w big s inv (opens o) e = (granted, withOpened s (opening o (s .opened)), (e, refl), not-broken _ tt)
+goes-on w big s inv (closes o) e = (granted, withOpened s (closing o (s .opened)), (e, refl), not-broken _ tt)
 goes-on w big s inv collect e = (let c = collects w big s inv e in (collected (c .block) (c .copies′), withFlash s (runs (s .flash) (clean (s .flash))), (tt, e, c .is, refl), not-broken _ tt))
-goes-on w big s inv mount e = (granted, record { n = s .n; p = s .p; power = true; running = true; opened = []; flash = mounted (s .flash .blocks) }, (e, refl), not-broken _ tt)
+goes-on w big s inv mount e = (granted, record { n = s .n; p = s .p; power = true; running = true; opened = none; flash = mounted (s .flash .blocks) }, (e, refl), not-broken _ tt)
 
 takes-on : (w : ℕ) → 2048 ≤ w → (s : Store) → Inv w s → (call : Call) → refusal s call ≡ 0 → TakesAll (s .n) (s .p) (s .flash) (actsOf w (s .flash) call)
 takes-on w big s inv (create o name) e = ends w big s inv (create o name) tt e .takes

@@ -2,11 +2,11 @@
 use Prim.Native.Nat.{ℕ, _≤_}
 use mathlib.Core.Path.{_≡_}
 use mathlib.Core.Logic.{_⊎_}
-use mathlib.Core.Bool.{Bool, true, false, not}
+use mathlib.Core.Bool.{Bool, true, false, not, _&&_, _||_}
 use mathlib.Core.List.{List, [], _∷_}
 use lib.Dec.{eqb}
 use Rattle.std.specs.declared.option.Option.the-variants.{Some}
-use Rattle.rules.specs.Lists.{any, keep}
+use Rattle.rules.specs.Lists.{any}
 use Rattle.rules.specs.Places.{plan, Flash, Act, runs, clean, toClean, counts, does}
 use Rattle.rules.specs.Mounting.{mounted, sameRecord}
 use Rattle.rules.specs.Calls.{Call, create, put, cut, rename, delete, opens, closes, collect, mount, recordOf}
@@ -84,7 +84,17 @@ Breaks s (a ∷ more) x bs′ = ((x ≡ a) × Failed (s .blocks) a bs′) ⊎ Br
 abbrev pub withFlash : Store → Flash → Store
 withFlash s f = record { n = s .n; p = s .p; power = s .power; running = s .running; opened = s .opened; flash = f }
 
-abbrev pub withOpened : Store → List ℕ → Store
+-- which files are open: none, and one more or one fewer
+abbrev pub none : ℕ → Bool
+none k = false
+
+abbrev pub opening : ℕ → (ℕ → Bool) → ℕ → Bool
+opening o held k = eqb k o || held k
+
+abbrev pub closing : ℕ → (ℕ → Bool) → ℕ → Bool
+closing o held k = not (eqb k o) && held k
+
+abbrev pub withOpened : Store → (ℕ → Bool) → Store
 withOpened s os = record { n = s .n; p = s .p; power = s .power; running = s .running; opened = os; flash = s .flash }
 
 -- a refusal changes nothing, but a refused mount has restarted the chip, and leaves the store stopped with no file open
@@ -97,7 +107,7 @@ whenRefused s (delete o) = s
 whenRefused s (opens o) = s
 whenRefused s (closes o) = s
 whenRefused s collect = s
-whenRefused s mount = record { n = s .n; p = s .p; power = true; running = false; opened = []; flash = s .flash }
+whenRefused s mount = record { n = s .n; p = s .p; power = true; running = false; opened = none; flash = s .flash }
 
 -- what open, close and mount leave; the others answer more
 abbrev pub Granted : Store → Call → Store → Type 0
@@ -106,10 +116,10 @@ Granted s (put o j bs) t = ⊥
 Granted s (cut o k) t = ⊥
 Granted s (rename o name) t = ⊥
 Granted s (delete o) t = ⊥
-Granted s (opens o) t = t ≡ withOpened s (o ∷ s .opened)
-Granted s (closes o) t = t ≡ withOpened s (keep (λ q. not (eqb q o)) (s .opened))
+Granted s (opens o) t = t ≡ withOpened s (opening o (s .opened))
+Granted s (closes o) t = t ≡ withOpened s (closing o (s .opened))
 Granted s collect t = ⊥
-Granted s mount t = t ≡ record { n = s .n; p = s .p; power = true; running = true; opened = []; flash = mounted (s .flash .blocks) }
+Granted s mount t = t ≡ record { n = s .n; p = s .p; power = true; running = true; opened = none; flash = mounted (s .flash .blocks) }
 
 -- after 7 the chip is off and the store is stopped, and open files stay open; how its blocks stand no longer counts
 pub record Stopped (s t : Store) : Type 0 where

@@ -2,7 +2,7 @@
 use Prim.Native.Nat.{ℕ, suc, _+_}
 use mathlib.Core.Bool.{Bool, true, false, not, _&&_, _||_, cond}
 use mathlib.Core.List.{List, [], _∷_, _++_}
-use lib.Dec.{eqb, ltb, leb}
+use lib.Dec.{ltb, leb}
 use lib.ListN.{length}
 use Rattle.std.specs.declared.option.Option.{Option}
 use Rattle.std.specs.declared.option.Option.the-variants.{Some, None}
@@ -24,7 +24,7 @@ pub record Store : Type 0 where
   pub p : ℕ
   pub power : Bool
   pub running : Bool
-  pub opened : List ℕ
+  pub opened : ℕ → Bool
   pub flash : Flash
 
 -- the refusals of a call: a number with its condition, rising
@@ -46,8 +46,9 @@ noObject o = not (within 257 511 o)
 abbrev pub noName : List ℕ → Bool
 noName name = not (within 1 40 (length name))
 
+-- the file of the object is open
 abbrev pub isOpen : Store → ℕ → Bool
-isOpen s o = any (eqb o) (s .opened)
+isOpen s o = s .opened o
 
 abbrev pub noSerial : List Record → Bool
 noSerial rs = leb 4294967295 (largest (λ r. r .tag .serial) rs)

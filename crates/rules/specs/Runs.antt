@@ -15,7 +15,7 @@ use Rattle.rules.specs.Calls.{Call, recordOf}
 use Rattle.rules.specs.Right.{accepted, after, right}
 use Rattle.rules.specs.Refusals.{Store, recs, isOpen, firstOf, earlyTable, refusal}
 use Rattle.rules.specs.Safety.{BlankTail}
-use Rattle.rules.specs.Machine.{Answer, IsChange, Fills, actsOf, Breaks, Step, Event, Run, lastOf, taken, madeOf, refused, counted, collected, granted, broken}
+use Rattle.rules.specs.Machine.{none, Answer, IsChange, Fills, actsOf, Breaks, Step, Event, Run, lastOf, taken, madeOf, refused, counted, collected, granted, broken}
 use Rattle.flash.specs.declared.chunks.Chunk.{Chunk}
 use Rattle.flash.specs.declared.chunks.Chunk.the-variants.{Blank, Damaged}
 use Rattle.flash.specs.Blocks.{standing}
@@ -29,7 +29,7 @@ pub record Shaped (w n p : ℕ) (bs : List (List Chunk)) : Type 0 where
 
 -- a chip attached: a stopped store, with no file open
 abbrev pub attached : ℕ → ℕ → Bool → List (List Chunk) → Store
-attached n p on bs = record { n = n; p = p; power = on; running = false; opened = []; flash = mounted bs }
+attached n p on bs = record { n = n; p = p; power = on; running = false; opened = none; flash = mounted bs }
 
 -- finding a place: blocks are cleaned one after the other while there is no place; each with its load as it is cleaned
 abbrev pub Cleanings : Flash → List (ℕ × ℕ) → Flash → Type 0

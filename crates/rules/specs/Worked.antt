@@ -18,7 +18,7 @@ use Rattle.rules.specs.Places.{Act, adding, copying, erasing, runs, counts, ma
 use Rattle.rules.specs.Mounting.{mounted, twoNamed, limit, noWayOn}
 use Rattle.rules.specs.Calls.{Call, create, put, cut, rename, delete, opens, closes, collect, mount}
 use Rattle.rules.specs.Refusals.{Store, recs, refusal}
-use Rattle.rules.specs.Machine.{actsOf, withFlash, withOpened}
+use Rattle.rules.specs.Machine.{none, opening, closing, actsOf, withFlash, withOpened}
 
 -- what a failing call leaves in a chunk
 pub data Outcome : Type 0 where
@@ -85,10 +85,10 @@ call-done w s (put o j bs) = withFlash s (runs (s .flash) (actsOf w (s .flash) (
 call-done w s (cut o k) = withFlash s (runs (s .flash) (actsOf w (s .flash) (cut o k)))
 call-done w s (rename o name) = withFlash s (runs (s .flash) (actsOf w (s .flash) (rename o name)))
 call-done w s (delete o) = withFlash s (runs (s .flash) (actsOf w (s .flash) (delete o)))
-call-done w s (opens o) = withOpened s (o ∷ s .opened)
-call-done w s (closes o) = withOpened s (keep (λ q. not (eqb q o)) (s .opened))
+call-done w s (opens o) = withOpened s (opening o (s .opened))
+call-done w s (closes o) = withOpened s (closing o (s .opened))
 call-done w s collect = withFlash s (runs (s .flash) (actsOf w (s .flash) collect))
-call-done w s mount = record { n = s .n; p = s .p; power = true; running = true; opened = []; flash = mounted (s .flash .blocks) }
+call-done w s mount = record { n = s .n; p = s .p; power = true; running = true; opened = none; flash = mounted (s .flash .blocks) }
 
 abbrev deed-done : ℕ → Store → Deed → Store
 deed-done w s (calls call) = call-done w s call
@@ -151,7 +151,7 @@ abbrev four : List Chunk
 four = Blank ∷ Blank ∷ Blank ∷ Blank ∷ []
 
 abbrev pub blank : Store
-blank = record { n = 3; p = 4; power = true; running = true; opened = []; flash = mounted (four ∷ four ∷ four ∷ []) }
+blank = record { n = 3; p = 4; power = true; running = true; opened = none; flash = mounted (four ∷ four ∷ four ∷ []) }
 
 abbrev five : List ℕ
 five = 1 ∷ 2 ∷ 3 ∷ 4 ∷ 5 ∷ []
