@@ -139,7 +139,7 @@ chunk-keeps (x ∷ cs) (suc c) left r e a =
       | inr b ↦ cons-rest x (recordsOf (set cs c left)) r (chunk-keeps cs c left r e b)
     ]
 
--- in a block that Holds something the change is seen
+-- in a block that holds something the change is seen
 pub set-seen : (bs : List (List Chunk)) (b : ℕ) (cs : List Chunk) (x r : Record) → Among x (recordsOf (getD bs b [])) → Among r (recordsOf cs) → Among r (standing (set bs b cs))
 set-seen [] b cs x r w a = absurd w
 set-seen (y ∷ bs) zero cs x r w a = among-left (recordsOf cs) (standing bs) r a

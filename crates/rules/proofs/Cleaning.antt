@@ -78,7 +78,7 @@ set-swap (x ∷ xs) zero (suc b) y z n = refl
 set-swap (x ∷ xs) (suc a) zero y z n = refl
 set-swap {A} (x ∷ xs) (suc a) (suc b) y z n = ap {B = List A} (λ zs. x ∷ zs) (set-swap xs a b y z (λ e. n (ap suc e)))
 
--- the first Blank chunk of a block whose Blank chunks are its last
+-- the first blank chunk of a block whose blank chunks are its last
 pub record Spot (cs : List Chunk) (c : ℕ) : Type 0 where
   pub free : getD cs c Damaged ≡ Blank
   pub tail : (r : Record) → BlankTail (set cs c (Holds r))
@@ -145,7 +145,7 @@ pub blanks-long : (p : ℕ) → length (replicate p Blank) ≡ p
 blanks-long zero = refl
 blanks-long (suc p) = ap suc (blanks-long p)
 
--- a program at the first Blank chunk of a block that is not closed
+-- a program at the first blank chunk of a block that is not closed
 module _ (p : ℕ) (s : Flash) (ok : Sound p s) (b c : ℕ) (r : Record) (inside : b < length (s .stand)) (at : Spot (getD (s .blocks) b []) c) where
   abbrev pub block : List Chunk
   block = getD (s .blocks) b []
@@ -281,7 +281,7 @@ module _ (p : ℕ) (s : Flash) (ok : Sound p s) (k : ℕ) (r : Record) where
         room = roomOpen b c e inside o h room;
       }
 
-  -- a Blank block opens
+  -- a blank block opens
   pub nextBlank : firstWhere isOpenS (s .stand) ≡ None → (i : ℕ) → firstWhere isBlankS (s .stand) ≡ Some i → suc k ≤ p → Next p s k r
   unfolding copyPlace openPlace blankPlace programmed
   nextBlank none i e l = record {

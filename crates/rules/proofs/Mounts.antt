@@ -1,4 +1,4 @@
--- What a mount leaves is sound, and a Blank block is room for any copies. Assumes nothing.
+-- What a mount leaves is sound, and a blank block is room for any copies. Assumes nothing.
 use Prim.Native.Nat.{ℕ, zero, suc, _<_}
 use native.Mathlib.Omega.{arith}
 use mathlib.Core.Path.{_≡_, refl, ap, _∙_}

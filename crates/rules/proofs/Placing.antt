@@ -149,7 +149,7 @@ pub count-append : {A : Type 0} (t : A → Bool) (xs ys : List A) → count t (x
 count-append t [] ys = omega arith
 count-append t (x ∷ xs) ys = omega (arith, count-append t xs ys)
 
--- what else Holds of contents and standings while the store runs
+-- what else holds of contents and standings while the store runs
 pub record Live (p : ℕ) (s : Flash) : Type 0 where
   pub sound : Sound p s
   pub tidy : Tidy p s
@@ -170,7 +170,7 @@ all-blank-is : (cs : List Chunk) → allBlank cs ≡ replicate (length cs) Blank
 all-blank-is [] = refl
 all-blank-is (c ∷ cs) = ap {B = List Chunk} (λ z. Blank ∷ z) (all-blank-is cs)
 
--- the chip takes a program at the first Blank chunk
+-- the chip takes a program at the first blank chunk
 pub takes-spot : (n p : ℕ) (bs : List (List Chunk)) (b c : ℕ) (r : Record) → Sized n p bs → b < n → Spot (getD bs b []) c → Takes n p bs (copying b c r)
 takes-spot n p bs b c r z l at = (l, (let e = at .left r in let f = z .each b l in omega arith), λ j h k. at .rest j h (let f = z .each b l in omega arith))
 
@@ -328,7 +328,7 @@ module _ (w n p : ℕ) (s : Flash) (g : Good w n p (s .blocks)) (lv : Live p s) 
   unfolding clean
   cleaned e = subst (λ (m : Option (ℕ × ℕ)). Cleaned w n p s (cleanBlock s m) l) (sym e) base
 
--- the place of a record to add: in the open block or in a Blank one, and another block is Blank
+-- the place of a record to add: in the open block or in a blank one, and another block is blank
 pub record PlaceIs (s : Flash) (b c : ℕ) : Type 0 where
   pub inside : b < length (s .stand)
   pub at : Spot (getD (s .blocks) b []) c

@@ -234,7 +234,7 @@ module _ (w n p k : ℕ) (fs : Files) (call : Call) (fit : Fit w n p k fs call) 
     erases = (let x = h .erases in omega arith);
   }
 
--- a block that is neither open nor Blank is closed
+-- a block that is neither open nor blank is closed
 standing-is : (x : Standing) → (x ≡ openS → ⊥) → (x ≡ blankS → ⊥) → x ≡ closedS
 standing-is blankS a b = absurd (b refl)
 standing-is openS a b = absurd (a refl)
@@ -259,7 +259,7 @@ limit-room (suc (suc m)) p u a b h =
     let f : u ≤ suc m * p - 1 = subst (λ (z : ℕ). u ≤ z * p - 1) e h in
     omega arith
 
--- with one Blank block and none open, the block of least load has room left
+-- with one blank block and none open, the block of least load has room left
 module _ (w n p : ℕ) (s : Flash) (g : Good w n p (s .blocks)) (lv : Live p s) where
   pub closed-at : firstWhere isOpenS (s .stand) ≡ None → (i : ℕ) → i < n → (getD (s .stand) i blankS ≡ blankS → ⊥) → getD (s .stand) i blankS ≡ closedS
   closed-at none i l b =
@@ -321,7 +321,7 @@ module _ (w n p : ℕ) (s : Flash) (g : Good w n p (s .blocks)) (lv : Live p s) 
           short room′
           (λ i a q. let b = tk .low i (shut i (let f = g .shape .blocks′ in omega arith) q) in omega arith)
 
-  -- with none Blank and none open, a closed block has load 0
+  -- with none blank and none open, a closed block has load 0
   pub idle : firstWhere isOpenS (s .stand) ≡ None → firstWhere isBlankS (s .stand) ≡ None → (v : ℕ) × (toClean s ≡ Some (v, 0))
   idle none nob = (tq .0, tq .2 ∙ ap {B = Option (ℕ × ℕ)} (λ z. Some (tq .0, z)) zero′)
     where
@@ -337,7 +337,7 @@ module _ (w n p : ℕ) (s : Flash) (g : Good w n p (s .blocks)) (lv : Live p s) 
       zero′ : tq .1 ≡ 0
       zero′ = (let a = taken-is s (tq .0) (tq .1) (tq .2) .low i cl in let b : load (s .blocks) i ≡ 0 = g .way .2 in omega arith)
 
--- the plan ends with the record added: one cleaning at most where a block is Blank, else two
+-- the plan ends with the record added: one cleaning at most where a block is blank, else two
 module _ (w n p k : ℕ) (fs : Files) (call : Call) (fit : Fit w n p k fs call) where
   abbrev ours : Record
   ours = recordBy w k fs call

@@ -35,7 +35,7 @@ less-gone rs [] r u a b e = a
 less-gone rs (v ∷ us) r u (inl p) b e = without-keep rs v .gone r (less-from (without rs v) us r b) (e ∙ ap (λ (z : Record). z .tag .serial) (sym p))
 less-gone rs (v ∷ us) r u (inr a) b e = less-gone (without rs v) us r u a b e
 
--- all (the first list) Holds all that stands on the way
+-- all (the first list) holds all that stands on the way
 module _ (all : List Record) (q : Unique all) where
   pub uniqueIn : (cur : List Record) → ((r : Record) → Among r cur → Among r all) → Unique cur
   uniqueIn cur sub a b x y e = q a b (sub a x) (sub b y) e

@@ -35,7 +35,7 @@ use Rattle.rules.proofs.Planning.{Fit, Stage, Added, Ends, plan-ends, idle}
 use Rattle.rules.proofs.Accepts.{rec-true, rec-self}
 use Rattle.rules.proofs.Checks.{clear-all, fit-create, fit-put, fit-cut, fit-rename, fit-delete}
 
--- what Holds of a store: of its contents always, of its standings and open files while it runs
+-- what holds of a store: of its contents always, of its standings and open files while it runs
 pub record Inv (w : ℕ) (s : Store) : Type 0 where
   pub good : Good w (s .n) (s .p) (s .flash .blocks)
   pub powered : s .running ≡ true → s .power ≡ true

@@ -1,4 +1,4 @@
--- Standings tell the contents: one block at most is open, and a block stands Blank when all its chunks are. Assumes nothing.
+-- Standings tell the contents: one block at most is open, and a block stands blank when all its chunks are. Assumes nothing.
 use Prim.Native.Nat.{ℕ, zero, suc, _+_, _<_}
 use native.Mathlib.Omega.{arith}
 use mathlib.Core.Path.{_≡_, refl, sym, ap, subst, _∙_}
@@ -37,7 +37,7 @@ open-in [] i e = absurd (let z : _≡_ {A = ℕ} 0 1 = cc in omega arith)
 open-in (x ∷ ss) zero e = omega arith
 open-in (x ∷ ss) (suc i) e = omega (arith, open-in ss i e)
 
--- no block is open, or the first of them has a first Blank chunk
+-- no block is open, or the first of them has a first blank chunk
 abbrev pub Opened : Flash → Option (ℕ × ℕ) → Type 0
 Opened s None = firstWhere isOpenS (s .stand) ≡ None
 Opened s (Some q) = (firstWhere isOpenS (s .stand) ≡ Some (q .0)) × Spot (getD (s .blocks) (q .0) []) (q .1)

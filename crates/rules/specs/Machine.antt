@@ -151,7 +151,7 @@ abbrev pub lastOf : Store → List Event → Store
 lastOf s [] = s
 lastOf s (e ∷ es) = lastOf (e .after) es
 
--- accepted: not refused; a change that answers 7, exactly when the chip then Holds the record that it was to add
+-- accepted: not refused; a change that answers 7, exactly when the chip then holds the record that it was to add
 abbrev pub taken : ℕ → Store → Call → Answer → Store → Bool
 taken w s call (refused k) t = false
 taken w s call (counted a b) t = true

@@ -1,4 +1,4 @@
--- Which refusal each call answers: the first of its table whose condition Holds; 0 means none. Assumes nothing.
+-- Which refusal each call answers: the first of its table whose condition holds; 0 means none. Assumes nothing.
 use Prim.Native.Nat.{ℕ, suc, _+_}
 use mathlib.Core.Bool.{Bool, true, false, not, _&&_, _||_, cond}
 use mathlib.Core.List.{List, [], _∷_, _++_}

@@ -52,7 +52,7 @@ pub record Finds (s : Flash) (todo : List Act) (r : Record) : Type 0 where
   pub programs : counts todo .0 ≡ 1 + loads cleaned
   pub erases : counts todo .1 ≡ length cleaned
 
--- the chip takes an act: there is such a block and chunk, and the chunk of a program and all later ones of its block are Blank
+-- the chip takes an act: there is such a block and chunk, and the chunk of a program and all later ones of its block are blank
 abbrev pub Takes : ℕ → ℕ → List (List Chunk) → Act → Type 0
 Takes n p bs (adding b c r) = (b < n) × (c < p) × ((j : ℕ) → c ≤ j → j < p → getD (getD bs b []) j Damaged ≡ Blank)
 Takes n p bs (copying b c r) = (b < n) × (c < p) × ((j : ℕ) → c ≤ j → j < p → getD (getD bs b []) j Damaged ≡ Blank)
@@ -65,17 +65,17 @@ TakesAll n p s (a ∷ more) = Takes n p (s .blocks) a × TakesAll n p (does s a)
 -- how the blocks of a running store stand
 pub record Stands (n p : ℕ) (f : Flash) : Type 0 where
   pub many : length (f .stand) ≡ n
-  -- a block stands Blank exactly when all its chunks are Blank
+  -- a block stands blank exactly when all its chunks are blank
   pub blankIs : (i : ℕ) → getD (f .stand) i closedS ≡ blankS → getD (f .blocks) i [] ≡ replicate p Blank
   pub blanked : (i : ℕ) → i < n → getD (f .blocks) i [] ≡ replicate p Blank → getD (f .stand) i closedS ≡ blankS
-  -- one block at most is open; its Blank chunks, one at least, are its last
+  -- one block at most is open; its blank chunks, one at least, are its last
   pub lone : (i j : ℕ) → getD (f .stand) i closedS ≡ openS → getD (f .stand) j closedS ≡ openS → i ≡ j
   pub openIs : (i : ℕ) → getD (f .stand) i closedS ≡ openS → BlankTail (getD (f .blocks) i []) × (1 ≤ count isBlank (getD (f .blocks) i []))
-  -- beside an open block one is Blank; with none open and none Blank, a closed block has load 0
+  -- beside an open block one is blank; with none open and none blank, a closed block has load 0
   pub spare : (b : ℕ) → getD (f .stand) b closedS ≡ openS → (i : ℕ) × (getD (f .stand) i closedS ≡ blankS)
   pub idle : ((i : ℕ) → getD (f .stand) i closedS ≡ openS → ⊥) → ((i : ℕ) → getD (f .stand) i closedS ≡ blankS → ⊥) → (i : ℕ) × (i < n) × (getD (f .stand) i blankS ≡ closedS) × (load (f .blocks) i ≡ 0)
 
--- what Holds of a store and of the right files
+-- what holds of a store and of the right files
 pub record Kept (w n p : ℕ) (rights : Files) (s : Store) : Type 0 where
   -- (a) the files by the reading rule are the right files
   pub rightly : (o : ℕ) → files (recs s) o ≡ rights o

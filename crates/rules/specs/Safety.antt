@@ -1,4 +1,4 @@
--- When an act loses nothing, and what Holds of contents and standings between calls. Assumes nothing.
+-- When an act loses nothing, and what holds of contents and standings between calls. Assumes nothing.
 use Prim.Native.Nat.{ℕ, _≤_, _<_}
 use mathlib.Core.Path.{_≡_}
 use mathlib.Core.Logic.{_⊎_}
@@ -17,7 +17,7 @@ use Rattle.flash.specs.declared.chunks.Chunk.the-variants.{Blank, Damaged, Hold
 use Rattle.flash.specs.Blocks.{recordsOf, standing, putAt}
 use Rattle.rules.specs.declared.standings.Standing.the-variants.{Blank as blankS, Open as openS, Closed as closedS}
 
--- a copy is of a record that stands, into a Blank chunk; what is wanted in a block that is erased stands elsewhere too
+-- a copy is of a record that stands, into a blank chunk; what is wanted in a block that is erased stands elsewhere too
 abbrev pub SafeAct : List (List Chunk) → Act → Type 0
 SafeAct bs (adding b c r) = getD (getD bs b []) c Damaged ≡ Blank
 SafeAct bs (copying b c r) = Among r (standing bs) × (getD (getD bs b []) c Damaged ≡ Blank)
@@ -27,7 +27,7 @@ abbrev pub SafeRun : Flash → List Act → Type 0
 SafeRun s [] = Unit {0}
 SafeRun s (a ∷ more) = SafeAct (s .blocks) a × SafeRun (does s a) more
 
--- the Blank chunks of a block are its last
+-- the blank chunks of a block are its last
 abbrev pub AllBlank : List Chunk → Type 0
 AllBlank [] = Unit {0}
 AllBlank (c ∷ cs) = (c ≡ Blank) × AllBlank cs
@@ -43,7 +43,7 @@ pub record Sound (p : ℕ) (s : Flash) : Type 0 where
   pub openIs : (i : ℕ) → getD (s .stand) i closedS ≡ openS → BlankTail (getD (s .blocks) i []) × (1 ≤ count isBlank (getD (s .blocks) i []))
   pub sameLong : length (s .stand) ≡ length (s .blocks)
 
--- room for k more copies: a Blank block, or k Blank chunks in the open one
+-- room for k more copies: a blank block, or k blank chunks in the open one
 abbrev pub RoomFor : ℕ → Flash → ℕ → Type 0
 RoomFor p s k =
     (((i : ℕ) × (firstWhere isBlankS (s .stand) ≡ Some i)) × (k ≤ p))
@@ -69,7 +69,7 @@ abbrev pub Cleaning-keeps-files : Type 0
 Cleaning-keeps-files = (p : ℕ) (s : Flash) → Sound p s → Unique (standing (s .blocks)) → ((q : ℕ × ℕ) → toClean s ≡ Some q → RoomFor p s (load (s .blocks) (q .0)))
     → (bs′ : List (List Chunk)) → MayHold s (clean s) bs′ → (o : ℕ) → files (standing (s .blocks)) o ≡ files (standing bs′) o
 
--- with a Blank block, and a load below p in the block taken, one cleaning makes a place
+-- with a blank block, and a load below p in the block taken, one cleaning makes a place
 abbrev pub Cleaning-makes-a-place : Type 0
 Cleaning-makes-a-place = (p : ℕ) (s : Flash) → Sound p s → ((i : ℕ) × (firstWhere isBlankS (s .stand) ≡ Some i))
     → (q : ℕ × ℕ) → toClean s ≡ Some q → load (s .blocks) (q .0) < p
