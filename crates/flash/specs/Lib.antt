@@ -6,3 +6,4 @@ pub mod Writes
 pub mod Blocks
 pub mod Coding
 pub mod Laws
+pub mod Words

@@ -1,0 +1,4 @@
+pub mod Places
+pub mod Remaking
+pub mod Acting
+pub mod Counting

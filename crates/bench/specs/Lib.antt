@@ -1,0 +1,5 @@
+pub mod Plans
+pub mod Benches
+pub mod Acts
+pub mod Rows
+pub mod Laws

@@ -1,0 +1,5 @@
+pub mod Coded
+pub mod Spots
+pub mod States
+pub mod Changes
+pub mod Fresh
