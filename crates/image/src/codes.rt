@@ -1,6 +1,6 @@
 ghost use mathlib.Core.Path.{_≡_};
-ghost use Prim.Native.Nat.{_+_, _≤_};
-ghost use lib.ListN.{length, take};
+ghost use Prim.Native.Nat.{_+_, _<_, _≤_};
+ghost use lib.ListN.{length, set, take};
 ghost use Rattle.flash.specs.Chunks.{lookOf, Whole, WholeChunk};
 ghost use Rattle.image.specs.Format.{le32, dataOf, startOf, chunkOf};
 ghost use Rattle.image.specs.Codes.{fourBytes, codeOf, Cleared};
@@ -100,12 +100,20 @@ pub(crate) fn blank_from(bytes: &[u8], chunks: u8, block: u8, chunk: u8) -> bool
     true
 }
 
+// Marks the chunk that begins there as blank.
+fn mark_blank(bytes: &mut [u8], start: usize)
+    requires { ⌜ start < length (now bytes) ⌝ }
+    ensures { λ _. ⌜ now (bytes .exit) ≡ set (now (bytes .entry)) start 255 ⌝ }
+{
+    bytes[start] = BLANK;
+}
+
 // Marks every chunk of a block as blank.
 pub(crate) fn clear(bytes: &mut [u8], chunks: u8, block: u8)
     requires { ⌜ startOf chunks block chunks ≤ length (now bytes) ⌝ }
     ensures { λ _. ⌜ Cleared (now (bytes .entry)) chunks block chunks (now (bytes .exit)) ⌝ }
 {
     for c in 0..chunks {
-        bytes[start_of(chunks, block, c)] = BLANK;
+        mark_blank(bytes, start_of(chunks, block, c));
     }
 }

@@ -9,14 +9,9 @@ use flash::Purpose;
 use flash::Record;
 use flash::Sizes;
 use flash::Tag;
-use flash::chunks::LookDebug;
 use flash::chunks::LookPartialEq;
-use flash::chunks::SizesDebug;
 use flash::chunks::SizesPartialEq;
-use flash::faults::FaultDebug;
 use flash::faults::FaultPartialEq;
-use std::alloc::AllocError;
-use std::alloc::Global;
 use std::test::*;
 
 // The number of the refusal of a chip of these bytes, or 0.
@@ -27,10 +22,6 @@ fn refusal(bytes: Vec<u8>) -> u32 {
     }
 }
 
-fn refusal_of(heap: Global, bytes: &[u8]) -> Result<u32, AllocError> {
-    Ok(refusal(Vec::from_slice(heap, bytes)?))
-}
-
 const TAG: Tag = Tag {
     first: 0x0102_0304,
     second: 5,
@@ -38,6 +29,12 @@ const TAG: Tag = Tag {
     serial: 0xFFFF_FFFF,
 };
 
+const RECORD: Record = Record {
+    tag: TAG,
+    bytes: [9; 2048],
+};
+
+// A chip of these bytes, which are an image.
 fn chip_of(bytes: Vec<u8>) -> Result<ImageChip, Fail> {
     match ImageChip::new(bytes) {
         Ok(chip) => Ok(chip),
@@ -47,25 +44,29 @@ fn chip_of(bytes: Vec<u8>) -> Result<ImageChip, Fail> {
 
 #[test]
 fn heads(rt: LibcRuntime) -> Result<(), Fail> {
-    let heap = rt.alloc();
-    check_eq(refusal_of(heap, b"TFS\x01\x00\x00\x00")?, 1)?;
-    check_eq(refusal_of(heap, b"TFS\x01\x00\x00\x00\x00")?, 0)?;
-    check_eq(refusal_of(heap, b"TFs\x02\x00\x00\x00\x00")?, 1)?;
-    check_eq(refusal_of(heap, b"TFS\x02\x00\x01\x01\x00")?, 2)?;
-    check_eq(refusal_of(heap, b"TFS\x01\x01\x00\x00\x00")?, 2)?;
-    check_eq(refusal_of(heap, b"TFS\x01\x00\x01\x01\x00")?, 3)?;
-    check_eq(refusal_of(heap, b"TFS\x01\x00\x00\x09\x00")?, 0)?;
-    check_eq(refusal_of(heap, b"TFS\x01\x00\x09\x00\x00")?, 0)
+    let table: [(&[u8], u32); 8] = [
+        (b"TFS\x01\x00\x00\x00", 1),
+        (b"TFS\x01\x00\x00\x00\x00", 0),
+        (b"TFs\x02\x00\x00\x00\x00", 1),
+        (b"TFS\x02\x00\x01\x01\x00", 2),
+        (b"TFS\x01\x01\x00\x00\x00", 2),
+        (b"TFS\x01\x00\x01\x01\x00", 3),
+        (b"TFS\x01\x00\x00\x09\x00", 0),
+        (b"TFS\x01\x00\x09\x00\x00", 0),
+    ];
+    for (bytes, number) in table {
+        check_eq(refusal(Vec::from_slice(rt.alloc(), bytes)?), number)?;
+    }
+    Ok(())
 }
 
 #[test]
 fn lengths(rt: LibcRuntime) -> Result<(), Fail> {
-    let heap = rt.alloc();
-    let mut bytes = blank(heap, 2, 3)?;
-    check_eq(bytes.len(), 12398)?;
-    bytes.push(0)?;
-    check_eq(refusal(bytes), 3)?;
-    let mut short = blank(heap, 2, 3)?;
+    let mut long = blank(rt.alloc(), 2, 3)?;
+    check_eq(long.len(), 12398)?;
+    long.push(0)?;
+    check_eq(refusal(long), 3)?;
+    let mut short = blank(rt.alloc(), 2, 3)?;
     let _ = short.pop();
     check_eq(refusal(short), 3)
 }
@@ -78,41 +79,41 @@ fn made_in_spite(rt: LibcRuntime) -> Result<(), Fail> {
     };
     let mut chip = unmade.chip;
     let at = Place { block: 0, chunk: 0 };
-    check(chip.is_on())?;
-    check_eq(
-        chip.sizes(),
-        Sizes {
-            blocks: 0,
-            chunks: 0,
-        },
+    check(
+        chip.is_on()
+            && chip.sizes()
+                == Sizes {
+                    blocks: 0,
+                    chunks: 0,
+                },
     )?;
-    check_eq(chip.look(at), Err(Fault::NoSuchPlace))?;
-    check_eq(chip.erase(0), Err(Fault::NoSuchPlace))?;
+    check(chip.look(at) == Err(Fault::NoSuchPlace))?;
+    check(chip.erase(0) == Err(Fault::NoSuchPlace))?;
     chip.restart();
     check_eq(chip.into_bytes().as_slice(), old)
 }
 
 #[test]
-fn programs_and_erases(rt: LibcRuntime) -> Result<(), Fail> {
+fn programs(rt: LibcRuntime) -> Result<(), Fail> {
     let mut chip = chip_of(blank(rt.alloc(), 2, 2)?)?;
     let at = Place { block: 1, chunk: 0 };
-    let record = Record {
-        tag: TAG,
-        bytes: [9; 2048],
-    };
-    check_eq(chip.look(Place { block: 9, chunk: 9 }), Err(Fault::Off))?;
+    check(chip.look(Place { block: 9, chunk: 9 }) == Err(Fault::Off))?;
     chip.restart();
-    check_eq(chip.program(Purpose::Adding, at, &record), Ok(()))?;
-    check_eq(
-        chip.program(Purpose::Adding, at, &record),
-        Err(Fault::NotBlank),
-    )?;
-    check_eq(chip.look(at), Ok(Look::Record(TAG)))?;
+    check(chip.program(Purpose::Adding, at, &RECORD) == Ok(()))?;
+    check(chip.program(Purpose::Adding, at, &RECORD) == Err(Fault::NotBlank))?;
+    check(chip.look(at) == Ok(Look::Record(TAG)))?;
     let mut buffer = [0; 2048];
-    check_eq(chip.fetch(at, &mut buffer), Ok(()))?;
-    check(buffer == record.bytes)?;
-    check_eq(chip.erase(1), Ok(()))?;
-    check_eq(chip.look(at), Ok(Look::Blank))?;
+    check(chip.fetch(at, &mut buffer) == Ok(()))?;
+    check(buffer == RECORD.bytes)
+}
+
+#[test]
+fn erases(rt: LibcRuntime) -> Result<(), Fail> {
+    let mut chip = chip_of(blank(rt.alloc(), 2, 2)?)?;
+    chip.restart();
+    let at = Place { block: 1, chunk: 0 };
+    check(chip.program(Purpose::Adding, at, &RECORD) == Ok(()))?;
+    check(chip.erase(1) == Ok(()) && chip.look(at) == Ok(Look::Blank))?;
     let bytes = chip.into_bytes();
     check(bytes.len() == 8268)?;
     check_eq(&bytes[4138..4144], &[0xFF, 4, 3, 2, 1, 5])?;
@@ -126,22 +127,12 @@ fn power_and_states(rt: LibcRuntime) -> Result<(), Fail> {
     bytes[7] = 2;
     bytes[2073] = 0;
     let mut chip = chip_of(bytes)?;
-    let last = Place { block: 0, chunk: 1 };
-    check(!chip.is_on())?;
-    check_eq(chip.look(last), Err(Fault::Off))?;
-    chip.restart();
-    check_eq(chip.look(last), Ok(Look::Damaged))?;
-    check_eq(chip.fetch(last, &mut [0; 2048]), Err(Fault::NoRecord))?;
-    let record = Record {
-        tag: TAG,
-        bytes: [9; 2048],
-    };
     let first = Place { block: 0, chunk: 0 };
-    check_eq(
-        chip.program(Purpose::Copying, first, &record),
-        Err(Fault::NotBlank),
-    )?;
-    let left = chip.into_bytes();
-    check(left.len() == 4138)?;
-    check_eq(left[7], 1)
+    let last = Place { block: 0, chunk: 1 };
+    check(!chip.is_on() && chip.look(last) == Err(Fault::Off))?;
+    chip.restart();
+    check(chip.look(last) == Ok(Look::Damaged))?;
+    check(chip.fetch(last, &mut [0; 2048]) == Err(Fault::NoRecord))?;
+    check(chip.program(Purpose::Copying, first, &RECORD) == Err(Fault::NotBlank))?;
+    check_eq(chip.into_bytes().get(7).copied(), Some(1))
 }
