@@ -16,6 +16,7 @@ use Rattle.rules.specs.Records.{keepsRules}
 use Rattle.rules.specs.Reading.{Files, named, nameTaken, header, highestChunk, chunk, files, fileOf, bytesIn, File, nameIn, usedBy}
 use Rattle.rules.specs.Places.{load}
 use Rattle.rules.specs.Mounting.{blankBlock, sizesFit, Placed, placedIn, placed, sameRecord, unlike, firstPlaced, firstClash, twoNamed, sharesName, limit, someLoadless, noWayOn, Fault, plainIf, placedFault, verdict}
+use Rattle.rules.specs.Laws.{Unique}
 use Rattle.rules.specs.Runs.{Shaped}
 use Rattle.flash.specs.declared.chunks.Chunk.{Chunk}
 use Rattle.flash.specs.declared.chunks.Chunk.the-variants.{Blank, Damaged, Holds}
@@ -241,7 +242,8 @@ loadless-from bs b [] i l e = absurd (omega arith)
 loadless-from bs b (x ∷ xs) zero l e = or-left _ _ (eq-eqb _ _ (ap (load bs) (let g : b ≡ b + 0 = omega arith in g) ∙ e))
 loadless-from bs b (x ∷ xs) (suc i) l e = or-right _ _ (loadless-from bs (suc b) xs i (omega arith) (ap (load bs) (let g : suc b + i ≡ b + suc i = omega arith in g) ∙ e))
 
-way-from : (n : ℕ) (bs : List (List Chunk)) → length bs ≡ n → noWayOn bs ≡ false → Way n bs
+-- 14 does not come exactly where some block has load 0
+pub way-from : (n : ℕ) (bs : List (List Chunk)) → length bs ≡ n → noWayOn bs ≡ false → Way n bs
 unfolding noWayOn
 way-from n bs m e =
     elim (and-cases (not (any blankBlock bs)) (not (someLoadless bs 0 bs)) e) [
@@ -254,11 +256,25 @@ way-from n bs m e =
           (x .0, (let l = x .1 in omega arith), ap (load bs) (let g : x .0 ≡ 0 + x .0 = omega arith in g) ∙ x .2))
     ]
 
-way-to : (n : ℕ) (bs : List (List Chunk)) → length bs ≡ n → Way n bs → noWayOn bs ≡ false
+pub way-to : (n : ℕ) (bs : List (List Chunk)) → length bs ≡ n → Way n bs → noWayOn bs ≡ false
 unfolding noWayOn
 way-to n bs m h =
     and-right (not (any blankBlock bs)) (not (someLoadless bs 0 bs))
     (not-from-true _ (loadless-from bs 0 bs (h .0) (let l = h .1 in omega arith) (ap (load bs) (let g : 0 + h .0 ≡ h .0 = omega arith in g) ∙ h .2)))
+
+-- 11 does not come: records of one serial are equal
+pub unique-from : (bs : List (List Chunk)) → firstClash [] (placed 0 bs) ≡ None → Unique (standing bs)
+unique-from bs c x y m m′ s =
+    let al = clash-none (placed 0 bs) [] c in
+    let h = all-placed 0 bs x m in
+    let h′ = all-placed 0 bs y m′ in
+    sym (h .2) ∙ al .new (h .0) (h′ .0) (h .1) (h′ .1) (ap (λ (z : Record). z .tag .serial) (h .2) ∙ s ∙ ap (λ (z : Record). z .tag .serial) (sym (h′ .2))) ∙ h′ .2
+
+-- 10 does not come: every record keeps the rules
+pub keeps-from : (bs : List (List Chunk)) → firstPlaced (λ q. not (keepsRules (q .what))) (placed 0 bs) ≡ None → (r : Record) → Among r (standing bs) → keepsRules r ≡ true
+keeps-from bs b r m =
+    let h = all-placed 0 bs r m in
+    subst (λ (z : Record). keepsRules z ≡ true) (h .2) (not-false _ (first-all (λ q. not (keepsRules (q .what))) (placed 0 bs) b (h .0) (h .1)))
 
 module _ (w n p : ℕ) (bs : List (List Chunk)) where
   abbrev rs : List Record
@@ -289,15 +305,13 @@ module _ (w n p : ℕ) (bs : List (List Chunk)) where
       let c = else-none (placedFault 11 (firstClash [] (placed 0 bs))) e12 (b .1) in
       let d = else-none (plainIf (twoNamed (files rs)) 12) e13 (c .1) in
       let f = else-none (plainIf (ltb (limit n p) (usedBy (files rs))) 13) e14 (d .1) in
-      let al = clash-none (placed 0 bs) [] (placed-none 11 _ (c .0)) in
-      let keeps : (r : Record) → Among r rs → keepsRules r ≡ true = λ r m. (let h = all-placed 0 bs r m in subst (λ (z : Record). keepsRules z ≡ true) (h .2) (not-false _ (first-all broken-rule (placed 0 bs) (placed-none 10 _ (b .0)) (h .0) (h .1)))) in
+      let keeps : (r : Record) → Among r rs → keepsRules r ≡ true = keeps-from bs (placed-none 10 _ (b .0)) in
       let range : (o : ℕ) (f : File) → files rs o ≡ Some f → (257 ≤ o) × (o ≤ 511) = file-range rs keeps in
       record {
         sizes = not-false _ (plain-none _ _ (a .0));
         shape = sh;
         rules = keeps;
-        unique = λ x y m m′ s. (let h = all-placed 0 bs x m in let h′ = all-placed 0 bs y m′ in
-            sym (h .2) ∙ al .new (h .0) (h′ .0) (h .1) (h′ .1) (ap (λ (z : Record). z .tag .serial) (h .2) ∙ s ∙ ap (λ (z : Record). z .tag .serial) (sym (h′ .2))) ∙ h′ .2);
+        unique = unique-from bs (placed-none 11 _ (c .0));
         filed = record { room = ltb-false _ _ (plain-none _ _ (f .0)); names = names-from (files rs) range (plain-none _ _ (d .0)) };
         way = way-from n bs (sh .blocks′) (plain-none _ _ (f .1));
       }

@@ -169,12 +169,12 @@ name-long [] l a b = absurd (omega arith)
 name-long (k ∷ bs) l a b = (let e = take-long k bs (omega arith) in (omega arith, omega arith))
 
 -- what rule 10 says of a header
-record HeaderRule (h : Record) : Type 0 where
-  low : 1 ≤ firstByte (h .bytes)
-  high : firstByte (h .bytes) ≤ 40
-  short : h .tag .third ≤ 1000
+pub record HeaderRule (h : Record) : Type 0 where
+  pub low : 1 ≤ firstByte (h .bytes)
+  pub high : firstByte (h .bytes) ≤ 40
+  pub short : h .tag .third ≤ 1000
 
-header-rule : (h : Record) → isHeader (kind h) ≡ true → keepsRules h ≡ true → HeaderRule h
+pub header-rule : (h : Record) → isHeader (kind h) ≡ true → keepsRules h ≡ true → HeaderRule h
 unfolding keepsRules
 header-rule h k e = go (kind h) k (and-parts (within 1 4294967295 (h .tag .serial)) _ e .1)
   where
