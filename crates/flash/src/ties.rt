@@ -27,7 +27,7 @@ pub struct Tie<C: Chip> {
 impl<C: Chip> std::marker::Model for Tie<C> {
     ghost also_owns = { λ t. feq View (view_of (C.Chip.model t.of)) (told t.coded) };
 
-    ghost also_shares = { λ t _ κ. said (feq View (view_of (C.Chip.model t.of)) (told t.coded)) tt κ };
+    ghost also_shares = { λ t _ κ. said (feq View (view_of (C.Chip.model t.of)) (told t.coded)) κ };
 }
 
 // It holds a fact and no memory, so it may be let go.

@@ -42,6 +42,8 @@ use Rattle.flash.specs.contracts.ties.Tie as T
 use Rattle.flash.specs.contracts.ties.Tie.tell.Key.{name as #self}
 use Rattle.flash.proofs.ties.Tie.tell.Statement as stated
 use Rattle.flash.proofs.ties.Tie.tell.Code as code
+use Rattle.flash.proofs.ties.Tie.TheLaws as ties
+use denote.Param.Laws.{Laws}
 
 -- what a witness tells
 abbrev state : {X : Type 0} → Tie X → View
@@ -62,7 +64,7 @@ module _ (Y : RattleType) (g : Ghosts Y.Denot) where
   abbrev spec : {M : Type 1} (𝓤 : Ura M) → Clauses 𝓤 ended
   spec 𝓤 κs a = record { ghost = Unit {0}; requires = λ _. emp 𝓤; ensures = λ _ r _. fact 𝓤 (view_of (g.model a.0.now.of) ≡ state a.0.now) }
 
-module _ (Y : RattleType) (g : Ghosts Y.Denot) (dict : Dict) {M : Type 1} {𝓤 : Ura M} (𝓛 : Logic 𝓤) where
+module _ (Y : RattleType) (L : Laws Y) (g : Ghosts Y.Denot) (dict : Dict) {M : Type 1} {𝓤 : Ura M} (𝓛 : Logic 𝓤) where
   open 𝓛 use {H, A}
 
   abbrev fn' : Fn
@@ -92,7 +94,7 @@ module _ (Y : RattleType) (g : Ghosts Y.Denot) (dict : Dict) {M : Type 1} {𝓤 
     walk : (C : Calls 𝓤 H) (Λ : Loops 𝓤 H) → ent 𝓤 (on_entry 𝓛 (ended Y g).signature (κ, tt) (q, tt) (self, tt) (vptr b o ∷ [], tt)) (WpFn 𝓤 H C Λ fn' (vptr b o ∷ []) Post)
     walk C Λ =
         qed 𝓛 ((‵ (flft κ q) ⊛ ‵ ftrue) ∷ ‵ (owns (ShrRef (named 0) κ (R Y g) ∷ []) (self, tt) (vptr b o ∷ [], tt)) ∷ []) ∵
-        move ! (1 ∷ []) $ fsplit ! $ fsplit ! $ drop ! $ shr_dup ! (shared_of (R Y g) d b o) κ $
+        move ! (1 ∷ []) $ fsplit ! $ fsplit ! $ drop ! $ shr_dup ! (R Y g) (ties.the_row_laws Y g L).shr_laws d b o κ $
         use1 𝓛 (‵ (hidden_shr (Struct (shape (T.the_type X g))) κ (tt, tt) b o) ⊛ ‵ (fhide (T.the_lent X g d (block_ptr b o) κ)))
         (lent_out 𝓛 (T.struct X g) (T.the_codes Y.Denot Y.coded (P.the_row X).coded) (T.the_heap X g) (T.the_lent X g) κ d b o) $ split ! $
         move ! (1 ∷ []) $ unhide ! $ feq_l ! (λ e. drop ! $ move ! (2 ∷ []) $ split ! $ keep ! (0 ∷ 2 ∷ []) $
@@ -107,12 +109,12 @@ module _ (Y : RattleType) (g : Ghosts Y.Denot) (dict : Dict) {M : Type 1} {𝓤 
       (walked 𝓛 (ended Y g) (stayed Y g) (spec Y g 𝓤) (WpFn 𝓤 H 𝓣.C 𝓣.Λ fn') (λ κs. (shr_vals, tt)) (λ κs. (shr_Tells (named 0) κs.0 (R Y g), tt))
       (λ κs qs bounds a h are. via 𝓤 _ (fst∗ 𝓤 _ (emp 𝓤)) (walk κs.0 qs.0 a.0.ref_ptr.0 a.0.ref_ptr.1 0 a.0.now 𝓣.C 𝓣.Λ)))
 
-pub tell-spec : {M : Type 1} → stated.statement M
+pub tell_spec : {M : Type 1} → stated.statement M
 unfolding tables_of
-tell-spec 𝓤 𝓛 𝓜 𝓡 wired Y L g dict met y =
+tell_spec 𝓤 𝓛 𝓜 𝓡 wired Y L g dict met y =
     let args : Args = bounded (a_type ∷ []) (Y, tt) (dcons dict dnil) in
     let A = 𝓛.A in
     let 𝓣 : Tables 𝓤 𝓛.H = tables_of 𝓤 𝓛.H 𝓜 (tables 𝓤 𝓛.H 𝓜 𝓡 𝓡.env) in
     spared 𝓛 (ended Y g).signature (𝓡.run (𝓡.env (#self args))) (run_framed 𝓤 𝓛.H 𝓜 𝓡 (𝓡.env (#self args))) 1 (Y.lives, tt) (closing 𝓛 (ended Y g) (spec Y g 𝓤))
-    (entered 𝓤 𝓛.H (triple_of 𝓛 (ended Y g).signature (closing 𝓛 (ended Y g) (spec Y g 𝓤))) 𝓣.C 𝓣.Λ (#self args) (inst_fn args code.function) (code.unfolded 𝓤 𝓛.H 𝓜 𝓡 wired (Y, tt) dict) (meets Y g dict 𝓛 𝓣))
+    (entered 𝓤 𝓛.H (triple_of 𝓛 (ended Y g).signature (closing 𝓛 (ended Y g) (spec Y g 𝓤))) 𝓣.C 𝓣.Λ (#self args) (inst_fn args code.function) (code.unfolded 𝓤 𝓛.H 𝓜 𝓡 wired (Y, tt) dict) (meets Y L g dict 𝓛 𝓣))
     ((y.0.0, y.0.1, tt, y.0.3, y.0.4), y.1)
