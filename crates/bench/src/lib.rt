@@ -1,5 +1,7 @@
 // The bench chip: a flash chip in memory whose supply fails at one act that the caller plans.
 // It owns the rows that it is made of and touches nothing else.
+#![tactic(auto)]
+
 pub mod benches;
 pub mod calls;
 pub mod laws;

@@ -1,5 +1,7 @@
 // What a flash chip is: chunks and the records in them, the calls that every chip has with a contract
 // each, and the witness by which a store's type can speak of its chip. This crate touches nothing else.
+#![tactic(auto)]
+
 pub mod chips;
 pub mod chunks;
 pub mod faults;

@@ -1,5 +1,7 @@
 // The image chip: a flash chip that lies in the bytes of an image file and never fails. This crate
 // touches only the bytes that it is handed.
+#![tactic(auto)]
+
 pub mod blanks;
 pub mod calls;
 mod codes;

@@ -1,5 +1,7 @@
 // The reading rule over a slice of looks: which files there are, which chunks they have, and how long they are. It
 // touches no chip, and knows nothing of blocks.
+#![tactic(auto)]
+
 mod hiders;
 pub mod lengths;
 pub mod reading;

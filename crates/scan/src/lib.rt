@@ -1,5 +1,7 @@
 // What is on a chip, found out by a scan: the index of its chunks, blocks and names, and mount's verdict on it. It touches
 // its chip by the calls of `flash::Chip` alone, and takes memory in `Index::new` alone.
+#![tactic(auto)]
+
 mod checks;
 mod clashes;
 pub mod formats;

@@ -1,5 +1,7 @@
 // The program that measures the store on the largest chip, kept in memory: it builds the chip's rows, takes the time of
 // mount, list and read, and prints the figures. It touches no file.
+#![tactic(auto)]
+
 mod fills;
 mod measures;
 

@@ -1,5 +1,7 @@
 // The store over any chip: attach, release, format, mount and the questions. It touches its chip by the calls of
 // `flash::Chip` alone, and takes memory in attach alone.
+#![tactic(auto)]
+
 mod asks;
 pub mod calls;
 pub mod stores;

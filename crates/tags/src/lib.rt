@@ -1,5 +1,7 @@
 // What a record's tag tells by itself or beside another, and the searches through a slice of looks for records whose
 // tags pass a test. It touches no chip, and knows nothing of blocks.
+#![tactic(auto)]
+
 pub mod criteria;
 pub mod finds;
 pub mod kinds;

@@ -10,8 +10,8 @@ pub loop-preserved : goal.loop-preserved
 loop-preserved c =
     let head = head_of c.args.blocks c.args.chunks in
     let k = c.loop.counter in
-    pushed {r = c.extend-from-slice-in-loop.result} c.blank-chunk-chunk.result c.loop.invariant c.in-ok-extend-from-slice-2.was c.extend-from-slice-in-loop.ensures.items
-    ∙ ap (λ (xs : List ℕ). (head ++ blank_chunks k) ++ xs) c.blank-chunk-chunk.ensures ∙ append_assoc head (blank_chunks k) blank_chunk ∙ ap (λ (xs : List ℕ). head ++ xs) (chunks-more k)
+    pushed {r = c.extend_from_slice-in-loop.result} c.blank_chunk-chunk.result c.loop.invariant c.in_ok-extend_from_slice-2.was c.extend_from_slice-in-loop.ensures.items
+    ∙ ap (λ (xs : List ℕ). (head ++ blank_chunks k) ++ xs) c.blank_chunk-chunk.ensures ∙ append_assoc head (blank_chunks k) blank_chunk ∙ ap (λ (xs : List ℕ). head ++ xs) (chunks-more k)
 
 pub returns : goal.returns
 returns c =

@@ -4,9 +4,9 @@ use Rattle.places.specs.Places.{is_blank_l}
 use Rattle.places.proofs.Firsts.{where-some, where-none}
 use Rattle.places.proofs.blocks.first_blank.Goals as goal
 
-pub returns-then-is-blank : goal.returns-then-is-blank
-returns-then-is-blank c = record {
-  value = sym (where-some is_blank_l c.args.rows.now Blank c.loop-chunk.chunk c.loop-chunk-test.true c.loop-chunk.invariant (sym c.is-blank.ensures ∙ c.if-is-blank.true));
+pub returns-then-is_blank : goal.returns-then-is_blank
+returns-then-is_blank c = record {
+  value = sym (where-some is_blank_l c.args.rows.now Blank c.loop-chunk.chunk c.loop-chunk-test.true c.loop-chunk.invariant (sym c.is_blank.ensures ∙ c.if-is_blank.true));
   within = c.loop-chunk-test.true;
 }
 

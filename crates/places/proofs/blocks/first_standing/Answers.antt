@@ -4,9 +4,9 @@ use Rattle.places.specs.Places.{stands_as}
 use Rattle.places.proofs.Firsts.{where-some, where-none}
 use Rattle.places.proofs.blocks.first_standing.Goals as goal
 
-pub returns-then-stands-as : goal.returns-then-stands-as
-returns-then-stands-as c = record {
-  value = sym (where-some (stands_as c.args.wanted) c.args.standings.now blank_s c.loop-block.block c.loop-block-test.true c.loop-block.invariant (sym c.stands-as.ensures ∙ c.if-stands-as.true));
+pub returns-then-stands_as : goal.returns-then-stands_as
+returns-then-stands_as c = record {
+  value = sym (where-some (stands_as c.args.wanted) c.args.standings.now blank_s c.loop-block.block c.loop-block-test.true c.loop-block.invariant (sym c.stands_as.ensures ∙ c.if-stands_as.true));
   within = c.loop-block-test.true;
 }
 

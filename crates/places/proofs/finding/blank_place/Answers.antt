@@ -5,9 +5,9 @@ use Rattle.places.specs.Places.{stands_as, place_told}
 use Rattle.places.proofs.Spots.{blank-known}
 use Rattle.places.proofs.finding.blank_place.Goals as goal
 
-pub returns-in-err-block : goal.returns-in-err-block
-returns-in-err-block c = λ f t.
-    ap place_told c.from-residual.ensures ∙ blank-known f c.args.index.now t _ (c.in-err-block.ensures.value ∙ ap (first_where (stands_as blank_s)) c.stands.ensures.value)
+pub returns-in_err-block : goal.returns-in_err-block
+returns-in_err-block c = λ f t.
+    ap place_told c.from_residual.ensures ∙ blank-known f c.args.index.now t _ (c.in_err-block.ensures.value ∙ ap (first_where (stands_as blank_s)) c.stands.ensures.value)
 
 pub returns : goal.returns
-returns c = λ f t. blank-known f c.args.index.now t _ (c.in-ok-block.ensures.value ∙ ap (first_where (stands_as blank_s)) c.stands.ensures.value)
+returns c = λ f t. blank-known f c.args.index.now t _ (c.in_ok-block.ensures.value ∙ ap (first_where (stands_as blank_s)) c.stands.ensures.value)

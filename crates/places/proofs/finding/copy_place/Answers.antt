@@ -5,4 +5,4 @@ pub returns-in-Some : goal.returns-in-Some
 returns-in-Some c = λ f t. copy-open f c.args.index.now t _ (c.in-Some.ensures f t)
 
 pub returns : goal.returns
-returns c = λ f t. copy-blank f c.args.index.now t _ (c.in-default.ensures f t) (c.blank-place.ensures f t)
+returns c = λ f t. copy-blank f c.args.index.now t _ (c.in_default.ensures f t) (c.blank_place.ensures f t)

@@ -11,7 +11,7 @@ use Rattle.places.specs.declared.victims.Victim.{Victim}
 use Rattle.places.proofs.Cutting.{load-known}
 use Rattle.places.proofs.Lightest.{beside, is-closed, not-closed, step-closed, step_other, step_end}
 use Rattle.places.proofs.victims.to_clean.Goals as goal
-use Rattle.places.proofs.victims.to_clean.Goals.{then-stands-as, else-stands-as}
+use Rattle.places.proofs.victims.to_clean.Goals.{then-stands_as, else-stands_as}
 
 pub loop-block-init : goal.loop-block-init
 unfolding to_clean
@@ -25,19 +25,19 @@ loop-block-preserved c = λ f t.
     let h : i < length f.stand = subst (λ (ss : List Standing). i < length ss) same c.loop-block-test.true in
     let at = ap (λ (ss : List Standing). get_or ss i blank_s) same in
     let rest = least (load f.blocks) (i + 1) (drop (i + 1) f.stand) in
-    elim c.if-stands-as.branch [
-      | then-stands-as w ↦
+    elim c.if-stands_as.branch [
+      | then-stands_as w ↦
           ap (λ (b : Option Victim). beside (victim_told b) rest) w.best-is
           ∙ ap (λ (v : Victim). beside (victim_told (Some v)) rest) w.lighter.ensures
           ∙ step-closed (load f.blocks) f.stand i h c.loop-block.best w.load-load.result (to_clean f)
-          (sym at ∙ is-closed _ (sym c.stands-as.ensures ∙ w.if-stands-as.true))
+          (sym at ∙ is-closed _ (sym c.stands_as.ensures ∙ w.if-stands_as.true))
           (load-known f x t w.load-load.result i
           (subst (λ (xs : List Look). (n : ℕ) → length xs ≡ n * x.sizes.chunks → i < n → w.load-load.result ≡ load (blocks_of x.sizes.chunks n (bares xs)) i) c.looks-looks.ensures w.load-load.ensures)
           (omega (arith, c.loop-block-test.true, c.stands-standing-items.ensures.few)))
           (c.loop-block.invariant f t)
-      | else-stands-as w ↦
+      | else-stands_as w ↦
           ap (λ (b : Option Victim). beside (victim_told b) rest) w.best-is
-          ∙ step_other (load f.blocks) f.stand i h c.loop-block.best (to_clean f) (λ e. not-closed _ (sym c.stands-as.ensures ∙ w.if-stands-as.false) (at ∙ e)) (c.loop-block.invariant f t)
+          ∙ step_other (load f.blocks) f.stand i h c.loop-block.best (to_clean f) (λ e. not-closed _ (sym c.stands_as.ensures ∙ w.if-stands_as.false) (at ∙ e)) (c.loop-block.invariant f t)
     ]
 
 pub returns : goal.returns

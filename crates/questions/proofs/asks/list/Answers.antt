@@ -9,14 +9,14 @@ use Rattle.questions.proofs.Asking.{few-rows, enough-rows}
 use Rattle.questions.proofs.Knowing.{rows_told}
 use Rattle.questions.proofs.asks.list.Goals as goal
 
-pub returns-then-rows-count-rows : goal.returns-then-rows-count-rows
-returns-then-rows-count-rows c = λ s k.
+pub returns-then-rows-count_rows : goal.returns-then-rows-count_rows
+returns-then-rows-count_rows c = λ s k.
     let told = ap (λ (xs : List Look). table_rows (records xs) objects) c.looks-looks.ensures ∙ rows_told s c.args.index.now k in
-    (few-rows (asked s) (length c.args.rows.now) refl (subst (λ (n : ℕ). length c.args.rows.now < n) (c.count-rows.ensures ∙ ap length told) c.if-rows-count-rows.true), refl)
+    (few-rows (asked s) (length c.args.rows.now) refl (subst (λ (n : ℕ). length c.args.rows.now < n) (c.count_rows.ensures ∙ ap length told) c.if-rows-count_rows.true), refl)
 
 pub returns : goal.returns
 returns c = λ s k.
     let told = ap (λ (xs : List Look). table_rows (records xs) objects) c.looks-looks.ensures ∙ rows_told s c.args.index.now k in (
-      enough-rows (asked s) (length c.args.rows.now) refl (subst (λ (n : ℕ). n ≤ length c.args.rows.now) (c.count-rows.ensures ∙ ap length told) c.if-rows-count-rows.false),
-      (c.list-into.ensures.count ∙ ap length told, c.list-into.ensures.rows ∙ ap (λ (xs : List Row). xs ++ drop c.list-into.result c.args.rows.now) told),
+      enough-rows (asked s) (length c.args.rows.now) refl (subst (λ (n : ℕ). n ≤ length c.args.rows.now) (c.count_rows.ensures ∙ ap length told) c.if-rows-count_rows.false),
+      (c.list_into.ensures.count ∙ ap length told, c.list_into.ensures.rows ∙ ap (λ (xs : List Row). xs ++ drop c.list_into.result c.args.rows.now) told),
     )

@@ -12,6 +12,6 @@ use Rattle.questions.proofs.asks.size.Goals as goal
 
 pub returns : goal.returns
 returns c = λ s k.
-    size-answered (asked s) c.args.object refl c.size-of.result (size_of (records (looks_in c.args.index.now)) c.args.object)
-    (c.size-of.ensures ∙ ap (λ (xs : List Look). size_answer (within 257 511 c.args.object) (size_of (records xs) c.args.object)) c.looks.ensures)
+    size-answered (asked s) c.args.object refl c.size_of.result (size_of (records (looks_in c.args.index.now)) c.args.object)
+    (c.size_of.ensures ∙ ap (λ (xs : List Look). size_answer (within 257 511 c.args.object) (size_of (records xs) c.args.object)) c.looks.ensures)
     (narrow_size s c.args.index.now k c.args.object)

@@ -16,9 +16,9 @@ returns c = λ s k.
     let x = c.args.index.now in
     let same = c.looks-looks.ensures in
     record {
-      files_are = c.count-rows.ensures ∙ ap length (ap (λ (xs : List Look). table_rows (records xs) objects) same ∙ rows_told s x k);
+      files_are = c.count_rows.ensures ∙ ap length (ap (λ (xs : List Look). table_rows (records xs) objects) same ∙ rows_told s x k);
       used_is = c.used.ensures ∙ ap (λ (xs : List Look). used (records xs)) same ∙ used-known s x k;
       limit_is = c.limit.ensures ∙ limit-known s x k;
-      blank_are = c.count-standing.ensures ∙ ap (count is_blank_s) c.stands.ensures.value;
-      serial_is = c.highest-serial.ensures ∙ ap (λ (xs : List Look). largest (λ r. r.tag.serial) (records xs)) same ∙ serial-known s x k;
+      blank_are = c.count_standing.ensures ∙ ap (count is_blank_s) c.stands.ensures.value;
+      serial_is = c.highest_serial.ensures ∙ ap (λ (xs : List Look). largest (λ r. r.tag.serial) (records xs)) same ∙ serial-known s x k;
     }

@@ -9,11 +9,11 @@ use Rattle.questions.proofs.lists.list_into.Goals as goal
 pub loop-object-init : goal.loop-object-init
 loop-object-init c = (omega (arith, ap length (rest_all (records c.args.looks.now))), rest_all (records c.args.looks.now), refl)
 
-pub put-row-at-requires : goal.put-row-at-requires
-put-row-at-requires c =
+pub put_row-at-requires : goal.put_row-at-requires
+put_row-at-requires c =
     let o = c.loop-object.object in
     let h : o < 512 = omega arith in
-    omega (arith, c.loop-object.invariant.0, rest-long (records c.args.looks.now) o h c.row-of.result c.row-of.ensures, c.requires, c.loop-object.auto.rows)
+    omega (arith, c.loop-object.invariant.0, rest-long (records c.args.looks.now) o h c.row_of.result c.row_of.ensures, c.requires, c.loop-object.auto.rows)
 
 pub loop-object-preserved : goal.loop-object-preserved
 loop-object-preserved c =
@@ -21,18 +21,18 @@ loop-object-preserved c =
     let o = c.loop-object.object in
     let at = c.loop-object.at in
     let xs = c.loop-object.rows in
-    let m = c.row-of.result in
+    let m = c.row_of.result in
     let h : o < 512 = omega arith in
-    let long = rest-long rs o h m c.row-of.ensures in
-    let more = rest_more rs o h m c.row-of.ensures in
+    let long = rest-long rs o h m c.row_of.ensures in
+    let more = rest_more rs o h m c.row_of.ensures in
     let fits : at + length (row_if m) ≤ length xs = omega (arith, c.loop-object.invariant.0, long, c.requires, c.loop-object.auto.rows) in
-    let next = c.put-row-at.ensures.next in
-    let laid = c.put-row-at.ensures.laid in (
+    let next = c.put_row-at.ensures.next in
+    let laid = c.put_row-at.ensures.laid in (
       omega (arith, next, long, c.loop-object.invariant.0),
-      ap (λ (ys : List Row). take c.put-row-at.result ys ++ table_rows rs (objects_from (o + 1))) laid
+      ap (λ (ys : List Row). take c.put_row-at.result ys ++ table_rows rs (objects_from (o + 1))) laid
           ∙ ap (λ (k : ℕ). take k (laid_at xs at (row_if m)) ++ table_rows rs (objects_from (o + 1))) next
           ∙ laid_more m xs (table_rows rs (objects_from (o + 1))) (table_rows rs objects) at fits (ap (λ (ys : List Row). take at xs ++ ys) (sym more) ∙ c.loop-object.invariant.1),
-      ap (drop c.put-row-at.result) laid
+      ap (drop c.put_row-at.result) laid
           ∙ ap (λ (k : ℕ). drop k (laid_at xs at (row_if m))) next
           ∙ beyond-more m xs c.args.rows.now at c.loop-object.invariant.2
           ∙ ap (λ (k : ℕ). drop k c.args.rows.now) (sym next),

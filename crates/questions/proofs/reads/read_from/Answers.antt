@@ -18,35 +18,35 @@ use Rattle.questions.proofs.reads.read_from.Goals as goal
 pub loop-at-init : goal.loop-at-init
 loop-at-init g c = (omega arith, λ f k e. laid_none (byte_at f) c.args.position c.args.buffer.now)
 
-pub copy-chunk-requires : goal.copy-chunk-requires
-copy-chunk-requires g c =
+pub copy_chunk-requires : goal.copy_chunk-requires
+copy_chunk-requires g c =
     let x = c.args.index.now in
     record { row = has-row x.sizes (vec_items x.rows) c.looks-rows.result.now c.chunk-found.result c.looks-rows.ensures c.chunk-found.ensures.place; offset = omega arith }
 
-pub returns-in-err-at : goal.returns-in-err-at
-returns-in-err-at g c = λ f k h e.
+pub returns-in_err-at : goal.returns-in_err-at
+returns-in_err-at g c = λ f k h e.
     let x = c.args.index.now in
     let found = c.chunk-found.result in
     let r = readable (g.C.Chip.model c.args.chip.now) x k in
     let place = subst (λ (xs : List Look). InPlace xs found) c.looks-rows.ensures c.chunk-found.ensures.place in
-    absurd (c.in-err-at.ensures.bytes k.on r.table.sizes (found-stands (g.C.Chip.model c.args.chip.now) x.sizes (looks_in x) r found place))
+    absurd (c.in_err-at.ensures.bytes k.on r.table.sizes (found-stands (g.C.Chip.model c.args.chip.now) x.sizes (looks_in x) r found place))
 
 pub loop-at-preserved : goal.loop-at-preserved
 loop-at-preserved g c =
     let s = g.C.Chip.model c.args.chip.now in
     let x = c.args.index.now in
     let here = c.args.position + c.loop-at.at in
-    let n = c.in-ok-at.ensures.count in
+    let n = c.in_ok-at.ensures.count in
     let m : c.loop-at.at ≤ c.min-count.result = c.loop-at.invariant.0 in
     let found = c.chunk-found.result in
     let same = c.looks-rows.ensures in (
-      part-most c.loop-at.buffer c.loop-at.at c.min-count.result (2048 - here % 2048) c.in-ok-at.field-0 m n,
+      part-most c.loop-at.buffer c.loop-at.at c.min-count.result (2048 - here % 2048) c.in_ok-at.field-0 m n,
       λ f k e.
           let r = readable s x k in
           let place = subst (λ (xs : List Look). InPlace xs found) same c.chunk-found.ensures.place in
           let value = c.chunk-found.ensures.value ∙ ap (λ (xs : List Look). chunk (records xs) c.args.object (here / 2048 + 1)) same in
-          let d = c.in-ok-at.ensures.bytes k.on r.table.sizes (found-stands s x.sizes (looks_in x) r found place) in
-          read_more f (counted_at s found) c.args.position c.loop-at.at c.in-ok-at.field-0 c.min-count.result c.args.buffer.now c.loop-at.buffer c.copy-chunk.new.part m (omega arith) n
+          let d = c.in_ok-at.ensures.bytes k.on r.table.sizes (found-stands s x.sizes (looks_in x) r found place) in
+          read_more f (counted_at s found) c.args.position c.loop-at.at c.in_ok-at.field-0 c.min-count.result c.args.buffer.now c.loop-at.buffer c.copy_chunk.new.part m (omega arith) n
           (found-bytes s x.sizes (looks_in x) r c.args.object (here / 2048 + 1) found value place ∙ sym ((file-at (standing (blocks_of s)) c.args.object f e).part' (here / 2048 + 1)))
           (c.loop-at.invariant.1 f k e) d.1,
     )
@@ -56,5 +56,5 @@ returns g c = λ f k h e.
     let s = g.C.Chip.model c.args.chip.now in
     let n : c.loop-at.at ≡ c.min-count.result = (let l = c.loop-at.invariant.0 in omega arith) in
     read_all s c.args.object c.args.size c.args.position c.min-count.result c.args.buffer.now c.loop-at.buffer h
-    (c.min-count.ensures ∙ ap (min (length c.args.buffer.now)) (c.saturating-sub.ensures ∙ ap (λ (i : ℕ). i - c.args.position) c.from.ensures)) f e
+    (c.min-count.ensures ∙ ap (min (length c.args.buffer.now)) (c.saturating_sub.ensures ∙ ap (λ (i : ℕ). i - c.args.position) c.from.ensures)) f e
     (c.loop-at.invariant.1 f k e ∙ ap (λ (i : ℕ). laid (byte_at f) c.args.position i c.args.buffer.now) n)

@@ -8,9 +8,9 @@ use Rattle.reading.proofs.lengths.highest_chunk.Goals as goal
 
 pub returns : goal.returns
 returns c =
-    c.highest-shown.ensures
+    c.highest_shown.ensures
     ∙ highest-shown (records c.args.looks.now) c.args.object c.carry.new.hiders
-    (hidden-by c.args.looks.now c.args.object c.note-all.new.hiders c.carry.new.hiders
-    c.note-all.auto.hiders
-    (raised-zeros (λ k. Largest (hider_at c.args.object k) c.args.looks.now) 1001 c.note-all.new.hiders c.note-all.ensures)
+    (hidden-by c.args.looks.now c.args.object c.note_all.new.hiders c.carry.new.hiders
+    c.note_all.auto.hiders
+    (raised-zeros (λ k. Largest (hider_at c.args.object k) c.args.looks.now) 1001 c.note_all.new.hiders c.note_all.ensures)
     c.carry.ensures)

@@ -8,7 +8,7 @@ loop-look-init c = omega arith
 
 pub loop-look-preserved : goal.loop-look-preserved
 loop-look-preserved c =
-    largest-more (shown_number c.args.hiders.now c.args.object) c.args.looks.now c.loop-look.look-index c.loop-look.highest c.max-highest.result c.loop-look-test.true (c.max-highest.ensures ∙ ap (max c.loop-look.highest) c.number-at.ensures) ∙ c.loop-look.invariant
+    largest-more (shown_number c.args.hiders.now c.args.object) c.args.looks.now c.loop-look.look-index c.loop-look.highest c.max-highest.result c.loop-look-test.true (c.max-highest.ensures ∙ ap (max c.loop-look.highest) c.number_at.ensures) ∙ c.loop-look.invariant
 
 pub returns : goal.returns
 returns c =

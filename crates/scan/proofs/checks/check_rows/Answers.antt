@@ -13,17 +13,17 @@ loop-row-init g c =
     let s = g.C.Chip.model c.args.chip.now in
     ((λ k r l. absurd (omega arith)), λ o. ap (λ (w : Option (List ℕ)). noted (filed_by c.args.rows.now) o w (flat (blocks_of s))) (c.requires.empty o))
 
-pub returns-in-err-check-row : goal.returns-in-err-check-row
-returns-in-err-check-row g c =
-    let p = err_from_is_err_and c.from-residual.result c.from-residual.ensures.1 in
-    rw (p.1, p.2) (record { row = c.loop-row.row; before = c.loop-row.invariant.0; broken = c.in-err-check-row.ensures })
+pub returns-in_err-check_row : goal.returns-in_err-check_row
+returns-in_err-check_row g c =
+    let p = err_from_is_err_and c.from_residual.result c.from_residual.ensures.1 in
+    rw (p.1, p.2) (record { row = c.loop-row.row; before = c.loop-row.invariant.0; broken = c.in_err-check_row.ensures })
 
 pub loop-row-preserved : goal.loop-row-preserved
 loop-row-preserved g c =
     let s = g.C.Chip.model c.args.chip.now in
-    let h = c.in-ok-check-row.ensures in (
+    let h = c.in_ok-check_row.ensures in (
       keep-more s c.loop-row.row c.loop-row.invariant.0 h.0,
-      λ o. noted_more s c.args.sizes c.args.rows.now c.loop-row.row o (noted (filed_by c.args.rows.now) o None (flat (blocks_of s))) (bytes_of c.loop-row.names) (bytes_of c.check-row.new.names) c.requires.table (omega arith) (c.loop-row.invariant.1 o) (h.1 o),
+      λ o. noted_more s c.args.sizes c.args.rows.now c.loop-row.row o (noted (filed_by c.args.rows.now) o None (flat (blocks_of s))) (bytes_of c.loop-row.names) (bytes_of c.check_row.new.names) c.requires.table (omega arith) (c.loop-row.invariant.1 o) (h.1 o),
     )
 
 pub returns : goal.returns

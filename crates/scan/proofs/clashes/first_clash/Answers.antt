@@ -3,13 +3,13 @@ use Rattle.scan.proofs.Telling.{rows_long, row_in}
 use Rattle.scan.proofs.Clashing.{first-clash-none, first-clash-some}
 use Rattle.scan.proofs.clashes.first_clash.Goals as goal
 
-pub place-of-requires : goal.place-of-requires
-place-of-requires g c = row_in _ _ _ _ c.requires c.loop-row-test.true
+pub place_of-requires : goal.place_of-requires
+place_of-requires g c = row_in _ _ _ _ c.requires c.loop-row-test.true
 
 pub returns-then-branch : goal.returns-then-branch
 returns-then-branch g c =
     let s = g.C.Chip.model c.args.chip.now in
-    let e = first-clash-some s c.loop-row.row (sym c.in-ok-clash-before.ensures ∙ c.if-branch.true) c.loop-row.invariant in
+    let e = first-clash-some s c.loop-row.row (sym c.in_ok-clash_before.ensures ∙ c.if-branch.true) c.loop-row.invariant in
     cc
 
 pub returns : goal.returns

@@ -9,15 +9,15 @@ returns-then-not-fits g c =
     let m = g.C.Chip.model c.restart.new.self in
     (fit-as s m c.sizes-sizes.result false c.restart.ensures c.sizes-sizes.ensures (sym c.if-not-fits.ensures), c.restart.ensures)
 
-pub returns-in-err-erase-all : goal.returns-in-err-erase-all
-returns-in-err-erase-all g c =
+pub returns-in_err-erase_all : goal.returns-in_err-erase_all
+returns-in_err-erase_all g c =
     let s = g.C.Chip.model c.args.chip.now in
     let m = g.C.Chip.model c.restart.new.self in
-    let p = err_from_is_err_and c.from-residual.result c.from-residual.ensures.1 in
-    rw (p.1, p.2) (format-refused s m (g.C.Chip.model c.erase-all.new.chip) c.sizes-sizes.result c.in-err-erase-all.field-0.0 c.restart.ensures c.sizes-sizes.ensures (sym c.if-not-fits.ensures) c.in-err-erase-all.ensures)
+    let p = err_from_is_err_and c.from_residual.result c.from_residual.ensures.1 in
+    rw (p.1, p.2) (format-refused s m (g.C.Chip.model c.erase_all.new.chip) c.sizes-sizes.result c.in_err-erase_all.field-0.0 c.restart.ensures c.sizes-sizes.ensures (sym c.if-not-fits.ensures) c.in_err-erase_all.ensures)
 
 pub returns : goal.returns
 returns g c =
     let s = g.C.Chip.model c.args.chip.now in
     let m = g.C.Chip.model c.restart.new.self in
-    format-done s m (g.C.Chip.model c.erase-all.new.chip) c.sizes-sizes.result c.restart.ensures c.sizes-sizes.ensures (sym c.if-not-fits.ensures) c.in-ok-erase-all.ensures
+    format-done s m (g.C.Chip.model c.erase_all.new.chip) c.sizes-sizes.result c.restart.ensures c.sizes-sizes.ensures (sym c.if-not-fits.ensures) c.in_ok-erase_all.ensures

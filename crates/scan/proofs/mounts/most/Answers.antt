@@ -7,8 +7,8 @@ use Rattle.scan.proofs.mounts.most.Goals as goal
 some : (n p : ℕ) → 3 ≤ n → 2 ≤ p → 1 ≤ (n - 1) * p
 some n p a b = (let h : 2 * 2 ≤ (n - 1) * p = mul-le-mul (let x : 2 ≤ n - 1 = omega arith in x) b in omega arith)
 
-pub overflow-sub-result-2 : goal.overflow-sub-result-2
-overflow-sub-result-2 c =
+pub overflow_sub-result-2 : goal.overflow_sub-result-2
+overflow_sub-result-2 c =
     let n = c.args.sizes.blocks in
     let p = c.args.sizes.chunks in
     let a = and_parts (within 3 64 n) _ c.requires in

@@ -9,9 +9,9 @@ pub loop-i-preserved : goal.loop-i-preserved
 loop-i-preserved g c =
     let s = g.C.Chip.model c.args.chip.now in
     let p-is = c.requires.sizes.chunks in
-    scanned-more s c.place-of.result c.in-ok-rows.field-0 c.loop-i.i c.loop-i.rows (omega arith)
-    (c.place-of.ensures.block ∙ ap (λ (z : ℕ). c.loop-i.i / z) p-is) (c.place-of.ensures.chunk ∙ ap (λ (z : ℕ). c.loop-i.i % z) p-is)
-    c.in-ok-rows.ensures c.loop-i.invariant
+    scanned-more s c.place_of.result c.in_ok-rows.field-0 c.loop-i.i c.loop-i.rows (omega arith)
+    (c.place_of.ensures.block ∙ ap (λ (z : ℕ). c.loop-i.i / z) p-is) (c.place_of.ensures.chunk ∙ ap (λ (z : ℕ). c.loop-i.i % z) p-is)
+    c.in_ok-rows.ensures c.loop-i.invariant
 
 pub returns : goal.returns
 returns g c =

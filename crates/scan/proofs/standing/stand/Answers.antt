@@ -11,8 +11,8 @@ more-fits n p b h = (let x : (b + 1) * p ≤ n * p = mul-le-mul_right p (omega a
 pub loop-b-init : goal.loop-b-init
 loop-b-init c = (refl, λ s t k l. absurd (omega arith))
 
-pub blank-rows-blank-requires : goal.blank-rows-blank-requires
-blank-rows-blank-requires c = omega (arith, more-fits c.args.sizes.blocks c.args.sizes.chunks c.loop-b.b c.loop-b-test.true, c.requires.rows)
+pub blank_rows-blank-requires : goal.blank_rows-blank-requires
+blank_rows-blank-requires c = omega (arith, more-fits c.args.sizes.blocks c.args.sizes.chunks c.loop-b.b c.loop-b-test.true, c.requires.rows)
 
 pub loop-b-preserved : goal.loop-b-preserved
 loop-b-preserved c =
@@ -21,8 +21,8 @@ loop-b-preserved c =
       λ s t.
           let n = t.sizes.blocks in
           let inside : c.loop-b.b < length (vec_items v) = omega (arith, v.ok.0, c.loop-b.invariant.0, c.requires.room) in
-          subst (λ (x : Standing). StandTo s (c.loop-b.b + 1) (set (vec_items v) c.loop-b.b x)) (sym c.move-on.ensures)
-          (stand-more s c.args.sizes c.args.rows.now t c.loop-b.b (omega arith) (vec_items v) c.blank-rows-blank.result inside (c.loop-b.invariant.1 s t) c.blank-rows-blank.ensures),
+          subst (λ (x : Standing). StandTo s (c.loop-b.b + 1) (set (vec_items v) c.loop-b.b x)) (sym c.move_on.ensures)
+          (stand-more s c.args.sizes c.args.rows.now t c.loop-b.b (omega arith) (vec_items v) c.blank_rows-blank.result inside (c.loop-b.invariant.1 s t) c.blank_rows-blank.ensures),
     )
 
 pub returns : goal.returns

@@ -1,14 +1,14 @@
 use Rattle.std.proofs.Common.{[], sym, ◌∙◌, inl, inr, arith}
 use Rattle.table.proofs.Onces.{Onces, count-step, count-end}
 use Rattle.table.proofs.counts.count_once.Goals as goal
-use Rattle.table.proofs.counts.count_once.Goals.{then-first-passes, else-first-passes}
+use Rattle.table.proofs.counts.count_once.Goals.{then-first_passes, else-first_passes}
 
 pub loop-place-preserved : goal.loop-place-preserved
 loop-place-preserved g c =
-    count-step (g.T.Test.holds c.args.test.now) c.args.looks.now c.loop-place.place c.loop-place.count c.if-first-passes.count (Onces (g.T.Test.holds c.args.test.now) [] c.args.looks.now) c.first-passes.result c.loop-place-test.true c.first-passes.ensures
-    (elim c.if-first-passes.branch [
-      | then-first-passes w ↦ inl (w.if-first-passes.true, w.count_is)
-      | else-first-passes w ↦ inr (w.if-first-passes.false, w.count_is)
+    count-step (g.T.Test.holds c.args.test.now) c.args.looks.now c.loop-place.place c.loop-place.count c.if-first_passes.count (Onces (g.T.Test.holds c.args.test.now) [] c.args.looks.now) c.first_passes.result c.loop-place-test.true c.first_passes.ensures
+    (elim c.if-first_passes.branch [
+      | then-first_passes w ↦ inl (w.if-first_passes.true, w.count_is)
+      | else-first_passes w ↦ inr (w.if-first_passes.false, w.count_is)
     ])
     c.loop-place.invariant
 

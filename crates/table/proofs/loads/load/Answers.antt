@@ -4,7 +4,7 @@ use Rattle.table.proofs.loads.load.Goals as goal
 
 pub returns-in-Some : goal.returns-in-Some
 returns-in-Some c = λ n long in'.
-    c.count-once.ensures
+    c.count_once.ensures
     ∙ load-by c.args.chunks c.args.block n c.args.looks.now long in' c.in-Some.rows.all.now c.in-Some.rows.before.now c.in-Some.rows.within.now c.in-Some.rows.after.now c.in-Some.ensures.all c.in-Some.ensures.before c.in-Some.ensures.within c.in-Some.ensures.after
 
 pub returns-in-None : goal.returns-in-None

@@ -4,7 +4,7 @@ use Rattle.table.proofs.loads.makes_load.Goals as goal
 
 pub returns-then-chunk-rows : goal.returns-then-chunk-rows
 returns-then-chunk-rows c = λ n long in' in''.
-    c.first-passes.ensures
+    c.first_passes.ensures
     ∙ row_by c.args.chunks c.args.block n c.args.looks.now long in' c.in-Some.rows.all.now c.in-Some.rows.before.now c.in-Some.rows.within.now c.in-Some.rows.after.now c.in-Some.ensures.all c.in-Some.ensures.before c.in-Some.ensures.within c.in-Some.ensures.after c.args.chunk
 
 pub returns-else-chunk-rows : goal.returns-else-chunk-rows

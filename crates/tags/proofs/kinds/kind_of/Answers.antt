@@ -2,9 +2,9 @@ use Rattle.std.proofs.Common.{rules}
 use Rattle.rules.specs.Records.{kind_by}
 use Rattle.tags.proofs.kinds.kind_of.Goals as goal
 
-pub returns-then-is-number : goal.returns-then-is-number
+pub returns-then-is_number : goal.returns-then-is_number
 unfolding kind_by
-returns-then-is-number c = search rules
+returns-then-is_number c = search rules
 
 pub returns-in-2147483649 : goal.returns-in-2147483649
 unfolding kind_by
@@ -18,6 +18,6 @@ pub returns-in-3221225476 : goal.returns-in-3221225476
 unfolding kind_by
 returns-in-3221225476 c = search rules
 
-pub returns-in-default : goal.returns-in-default
+pub returns-in_default : goal.returns-in_default
 unfolding kind_by
-returns-in-default c = search rules
+returns-in_default c = search rules

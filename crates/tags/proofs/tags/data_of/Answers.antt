@@ -3,10 +3,10 @@ use Rattle.rules.specs.Records.{kind}
 use Rattle.rules.specs.Reading.{data_of}
 use Rattle.tags.proofs.tags.data_of.Goals as goal
 
-pub returns-then-object-of-object : goal.returns-then-object-of-object
+pub returns-then-object_of-object : goal.returns-then-object_of-object
 unfolding data_of kind
-returns-then-object-of-object c = search rules
+returns-then-object_of-object c = search rules
 
-pub returns-else-object-of-object : goal.returns-else-object-of-object
+pub returns-else-object_of-object : goal.returns-else-object_of-object
 unfolding data_of kind
-returns-else-object-of-object c = search rules
+returns-else-object_of-object c = search rules

@@ -3,10 +3,10 @@ use Rattle.rules.specs.Records.{kind}
 use Rattle.rules.specs.Reading.{head_of}
 use Rattle.tags.proofs.tags.head_of.Goals as goal
 
-pub returns-then-object-of-object : goal.returns-then-object-of-object
+pub returns-then-object_of-object : goal.returns-then-object_of-object
 unfolding head_of kind
-returns-then-object-of-object c = search rules
+returns-then-object_of-object c = search rules
 
-pub returns-else-object-of-object : goal.returns-else-object-of-object
+pub returns-else-object_of-object : goal.returns-else-object_of-object
 unfolding head_of kind
-returns-else-object-of-object c = search rules
+returns-else-object_of-object c = search rules

@@ -26,8 +26,8 @@ left_is fails q r c x y v d e h = cc
 pub index-old-requires : goal.index-old-requires
 index-old-requires c = has-row c.args.self.now c.loop-c.self c.args.block c.loop-c.c c.requires (omega arith) c.loop-c.invariant.1
 
-pub index-mut-requires : goal.index-mut-requires
-index-mut-requires c = has-row c.args.self.now c.loop-c.self c.args.block c.loop-c.c c.requires (omega arith) c.loop-c.invariant.1
+pub index_mut-requires : goal.index_mut-requires
+index_mut-requires c = has-row c.args.self.now c.loop-c.self c.args.block c.loop-c.c c.requires (omega arith) c.loop-c.invariant.1
 
 pub loop-c-preserved : goal.loop-c-preserved
 loop-c-preserved c =

@@ -6,7 +6,7 @@ pub returns-then-fill : goal.returns-then-fill
 returns-then-fill c =
     let d = sym c.if-fill.ensures.value in
     record {
-      rules = (c.at.ensures, program-fails c.args.self.now c.fill.new.self c.args.at c.in-ok-row.row c.args.record.now c.in-ok-row.ensures c.if-not-blank-from.ensures d c.fill.ensures.after);
+      rules = (c.at.ensures, program-fails c.args.self.now c.fill.new.self c.args.at c.in_ok-row.row c.args.record.now c.in_ok-row.ensures c.if-not-blank_from.ensures d c.fill.ensures.after);
       plan = (d, c.fill.ensures.after);
     }
 
@@ -14,6 +14,6 @@ pub returns : goal.returns
 returns c =
     let d = sym c.if-fill.ensures.value in
     record {
-      rules = program-done c.args.self.now c.fill.new.self c.args.at c.in-ok-row.row c.args.record.now c.in-ok-row.ensures c.if-not-blank-from.ensures d c.fill.ensures.after;
+      rules = program-done c.args.self.now c.fill.new.self c.args.at c.in_ok-row.row c.args.record.now c.in_ok-row.ensures c.if-not-blank_from.ensures d c.fill.ensures.after;
       plan = (d, c.fill.ensures.after);
     }

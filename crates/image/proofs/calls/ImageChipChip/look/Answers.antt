@@ -5,5 +5,5 @@ use Rattle.image.proofs.calls.ImageChipChip.look.Goals as goal
 
 pub returns : goal.returns
 returns c =
-    looked (vec_items c.args.self.now.bytes) _ c.args.at c.in-ok-start.start c.look-at.result c.in-ok-start.ensures
-    (cut c.deref.result.now (vec_items c.args.self.now.bytes) c.in-ok-start.start c.deref.ensures.value) c.look-at.ensures.tells c.look-at.ensures.whole
+    looked (vec_items c.args.self.now.bytes) _ c.args.at c.in_ok-start.start c.look_at.result c.in_ok-start.ensures
+    (cut c.deref.result.now (vec_items c.args.self.now.bytes) c.in_ok-start.start c.deref.ensures.value) c.look_at.ensures.tells c.look_at.ensures.whole

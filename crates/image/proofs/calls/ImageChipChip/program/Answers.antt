@@ -18,48 +18,48 @@ read xs zs p n b k ez ep h =
     let Q : ℕ → Type 0 = λ m. BlankStates zs m b k in
     subst P ez (subst Q ep h)
 
-pub blank-from-requires : goal.blank-from-requires
-blank-from-requires c =
+pub blank_from-requires : goal.blank_from-requires
+blank_from-requires c =
     let xs = vec_items c.args.self.now.bytes in
     let q = c.args.at in
-    let f = c.in-ok-start.ensures in
-    let e = chunks-are xs q c.in-ok-start.start c.counts-chunks.result.1 f c.counts-chunks.ensures.chunks in
+    let f = c.in_ok-start.ensures in
+    let e = chunks-are xs q c.in_ok-start.start c.counts-chunks.result.1 f c.counts-chunks.ensures.chunks in
     let P : ℕ → Type 0 = λ p. start_of p q.block p ≤ length c.deref.result.now in
     let Q : List ℕ → Type 0 = λ zs. start_of (chunk_count xs) q.block (chunk_count xs) ≤ length zs in
     subst P (sym e) (subst Q (sym c.deref.ensures.value) (block_room xs q.block f.well f.within.block))
 
-pub returns-then-not-blank-from : goal.returns-then-not-blank-from
-returns-then-not-blank-from c =
+pub returns-then-not-blank_from : goal.returns-then-not-blank_from
+returns-then-not-blank_from c =
     let xs = vec_items c.args.self.now.bytes in
     let q = c.args.at in
-    let f = c.in-ok-start.ensures in
-    let e = chunks-are xs q c.in-ok-start.start c.counts-chunks.result.1 f c.counts-chunks.ensures.chunks in
-    let n = not-blank xs q c.in-ok-start.start f (λ h. c.if-not-blank-from.ensures (read c.deref.result.now xs _ _ _ _ (sym c.deref.ensures.value) (sym e) h)) in
+    let f = c.in_ok-start.ensures in
+    let e = chunks-are xs q c.in_ok-start.start c.counts-chunks.result.1 f c.counts-chunks.ensures.chunks in
+    let n = not-blank xs q c.in_ok-start.start f (λ h. c.if-not-blank_from.ensures (read c.deref.result.now xs _ _ _ _ (sym c.deref.ensures.value) (sym e) h)) in
     record { rules = (n.0, n.1, n.2, refl); bytes = (tt, refl) }
 
-pub invariant-of-self : goal.invariant-of-self
-invariant-of-self c =
+pub invariant_of-self : goal.invariant_of-self
+invariant_of-self c =
     let v = c.args.self.now.bytes in
-    let i = c.in-ok-start.start in
+    let i = c.in_ok-start.start in
     let r = c.args.record.now in
-    let f = c.in-ok-start.ensures in
-    let w = c.write-record.ensures.whole in
-    let e = vec-programmed v c.deref-mut.result.now c.write-record.new.chunk i r c.deref-mut.ensures.value c.write-record.ensures.after f.room w in
-    (c.args.self.now.told ∙ f.well ∙ sym (ap well_made e ∙ programmed-well (vec_items v) c.args.at i r f w), tt)
+    let f = c.in_ok-start.ensures in
+    let w = c.write_record.ensures.whole in
+    let e = vec-programmed v c.deref_mut.result.now c.write_record.new.chunk i r c.deref_mut.ensures.value c.write_record.ensures.after f.room w in
+    record { told = c.args.self.now.told ∙ f.well ∙ sym (ap well_made e ∙ programmed-well (vec_items v) c.args.at i r f w) }
 
 pub returns : goal.returns
 returns c =
     let v = c.args.self.now.bytes in
     let xs = vec_items v in
     let q = c.args.at in
-    let i = c.in-ok-start.start in
+    let i = c.in_ok-start.start in
     let r = c.args.record.now in
-    let f = c.in-ok-start.ensures in
-    let w = c.write-record.ensures.whole in
-    let e = vec-programmed v c.deref-mut.result.now c.write-record.new.chunk i r c.deref-mut.ensures.value c.write-record.ensures.after f.room w in
+    let f = c.in_ok-start.ensures in
+    let w = c.write_record.ensures.whole in
+    let e = vec-programmed v c.deref_mut.result.now c.write_record.new.chunk i r c.deref_mut.ensures.value c.write_record.ensures.after f.room w in
     let k = chunks-are xs q i c.counts-chunks.result.1 f c.counts-chunks.ensures.chunks in
     let P : List ℕ → Type 0 = λ ys. ProgramDone (image_of xs) q r (image_of ys) in
     record {
-      rules = subst P (sym e) (program-done xs q i r f (read xs c.deref.result.now _ _ _ _ c.deref.ensures.value k c.if-not-blank-from.ensures) w);
+      rules = subst P (sym e) (program-done xs q i r f (read xs c.deref.result.now _ _ _ _ c.deref.ensures.value k c.if-not-blank_from.ensures) w);
       bytes = e ∙ ap (λ (s : ℕ). programmed xs s r) f.here;
     }

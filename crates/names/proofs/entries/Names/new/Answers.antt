@@ -4,6 +4,6 @@ use Rattle.names.proofs.entries.Names.new.Goals as goal
 
 pub returns : goal.returns
 returns c =
-    let v = c.in-ok-bytes.bytes in
-    let f = c.in-ok-bytes.ensures in
+    let v = c.in_ok-bytes.bytes in
+    let f = c.in_ok-bytes.ensures in
     zeros-empty (vec_len v) (vec_items v) (f.items-if-clones-equal (λ y e. e) ∙ sym (ap (λ (n : ℕ). replicate n 0) f.len))

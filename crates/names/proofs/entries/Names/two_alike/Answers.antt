@@ -8,12 +8,12 @@ pub loop-object-init : goal.loop-object-init
 loop-object-init c k l s = let w = in-range (vec_items c.args.self.now.bytes) k s.1 s.3 in omega arith
 
 pub loop-object-preserved : goal.loop-object-preserved
-loop-object-preserved c = below_more _ _ c.loop-object.invariant (λ s. both_ways false refl (c.if-is-repeated.ensures.1 s))
+loop-object-preserved c = below_more _ _ c.loop-object.invariant (λ s. both_ways false refl (c.if-is_repeated.ensures.1 s))
 
-pub returns-then-is-repeated : goal.returns-then-is-repeated
-returns-then-is-repeated c =
+pub returns-then-is_repeated : goal.returns-then-is_repeated
+returns-then-is_repeated c =
     let xs = vec_items c.args.self.now.bytes in
-    let d : Decides true (Alike xs) = (λ e. (c.loop-object.object, c.if-is-repeated.ensures.0 refl), λ a. refl) in
+    let d : Decides true (Alike xs) = (λ e. (c.loop-object.object, c.if-is_repeated.ensures.0 refl), λ a. refl) in
     record { alike = d; files = λ fs m. alike-mirrored xs fs m true d }
 
 pub returns : goal.returns

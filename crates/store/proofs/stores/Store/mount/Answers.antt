@@ -7,33 +7,33 @@ use Rattle.store.proofs.Mounting.{flash-mounted, flash-same}
 use Rattle.store.proofs.Sounding.{knows-sound}
 use Rattle.store.proofs.stores.Store.mount.Goals as goal
 
-pub returns-in-err-done : goal.returns-in-err-done
-returns-in-err-done g c =
+pub returns-in_err-done : goal.returns-in_err-done
+returns-in_err-done g c =
     let s = g.C.Chip.model c.args.self.now.chip in
     let m = g.C.Chip.model c.mount-done.new.chip in
-    let p = err_from_is_err_and c.from-residual.result c.from-residual.ensures.1 in
-    let d = c.in-err-done.ensures in
+    let p = err_from_is_err_and c.from_residual.result c.from_residual.ensures.1 in
+    let d = c.in_err-done.ensures in
     record {
       chip = d.chip;
       answers = rw (p.1, p.2) d.answers;
-      runs = (rw p.1, c.none-held-self.ensures);
+      runs = (rw p.1, c.none_held-self.ensures);
       stands = rw p.1 (flash-same s m (vec_items c.args.self.now.index.standings) (vec_items c.mount-done.new.self.standings) d.chip d.leaves);
     }
 
-pub invariant-of-self-2 : goal.invariant-of-self-2
-invariant-of-self-2 g c =
+pub invariant_of-self-2 : goal.invariant_of-self-2
+invariant_of-self-2 g c =
     let x = c.mount-done.new.self in
-    let knows = subst (λ (w : View). Knows w x) (sym c.new.ensures.1) c.in-ok-done.ensures.leaves in
+    let knows = subst (λ (w : View). Knows w x) (sym c.new.ensures.1) c.in_ok-done.ensures.leaves in
     (c.new.ensures.0, (knows-sound (told c.new.result.coded) x knows, tt))
 
 pub returns : goal.returns
 returns g c =
     let s = g.C.Chip.model c.args.self.now.chip in
     let m = g.C.Chip.model c.mount-done.new.chip in
-    let d = c.in-ok-done.ensures in
+    let d = c.in_ok-done.ensures in
     record {
       chip = d.chip;
       answers = d.answers;
-      runs = (refl, c.none-held-self.ensures);
+      runs = (refl, c.none_held-self.ensures);
       stands = flash-mounted s m c.mount-done.new.self d.chip d.leaves;
     }
