@@ -41,7 +41,7 @@ fn copy_chunk<C: Chip>(
     requires row { HasRow index.now.sizes found }
     requires offset { offset ≤ 2048 }
     ensures count { IfOk result (λ n. n ≡ min (length part.old) (2048 - offset)) }
-    ensures bytes { (model chip.now).on ≡ true → Sized (model chip.now) index.now.sizes → Stands (model chip.now) found → ChunkRead (counted_at (model chip.now) found) offset part.old result part.new }
+    ensures bytes { (C.Chip.model chip.now).on ≡ true → Sized (C.Chip.model chip.now) index.now.sizes → Stands (C.Chip.model chip.now) found → ChunkRead (counted_at (C.Chip.model chip.now) found) offset part.old result part.new }
 {
     let mut bytes = [ABSENT; CHUNK];
     if let Some(found) = found {
@@ -64,7 +64,7 @@ pub(crate) fn read_from<C: Chip>(
     position: u64,
     buffer: &mut [u8],
 ) -> Result<usize, Fault>
-    ensures { (f : File) → Knows (view_of (model chip.now)) index.now → HasSize (model chip.now) object size → files (standing (blocks_of (model chip.now))) object ≡ Some f → ReadFrom f position buffer.old result buffer.new }
+    ensures { (f : File) → Knows (view_of (C.Chip.model chip.now)) index.now → HasSize (C.Chip.model chip.now) object size → files (standing (blocks_of (C.Chip.model chip.now))) object ≡ Some f → ReadFrom f position buffer.old result buffer.new }
 {
     let rows = index.looks();
     let count = buffer

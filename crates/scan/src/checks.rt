@@ -77,10 +77,10 @@ fn note_name<C: Chip>(
     tag: &Tag,
     names: &mut Names,
 ) -> Result<u8, Fault>
-    requires on { (model chip.now).on ≡ true }
-    requires within { Within (model chip.now) at }
-    requires here { look_of ((model chip.now).cells at.block at.chunk) ≡ RecordL tag.now }
-    ensures { NameNoted (model chip.now) rows.now at (bytes_of names.old) result (bytes_of names.new) }
+    requires on { (C.Chip.model chip.now).on ≡ true }
+    requires within { Within (C.Chip.model chip.now) at }
+    requires here { look_of ((C.Chip.model chip.now).cells at.block at.chunk) ≡ RecordL tag.now }
+    ensures { NameNoted (C.Chip.model chip.now) rows.now at (bytes_of names.old) result (bytes_of names.new) }
 {
     let mut data = [0u8; 2048];
     chip.fetch(at, &mut data)?;
@@ -102,10 +102,10 @@ fn first_byte<C: Chip>(
     tag: &Tag,
     names: &mut Names,
 ) -> Result<u8, Fault>
-    requires on { (model chip.now).on ≡ true }
-    requires within { Within (model chip.now) at }
-    requires here { look_of ((model chip.now).cells at.block at.chunk) ≡ RecordL tag.now }
-    ensures { FirstByte (model chip.now) rows.now at (bytes_of names.old) result (bytes_of names.new) }
+    requires on { (C.Chip.model chip.now).on ≡ true }
+    requires within { Within (C.Chip.model chip.now) at }
+    requires here { look_of ((C.Chip.model chip.now).cells at.block at.chunk) ≡ RecordL tag.now }
+    ensures { FirstByte (C.Chip.model chip.now) rows.now at (bytes_of names.old) result (bytes_of names.new) }
 {
     if is_header(kind_of(tag)) {
         return note_name(chip, rows, at, tag, names);
@@ -121,9 +121,9 @@ fn check_row<C: Chip>(
     row: usize,
     names: &mut Names,
 ) -> Result<(), Refusal>
-    requires table { TableOf (model chip.now) sizes rows.now }
+    requires table { TableOf (C.Chip.model chip.now) sizes rows.now }
     requires row { row < length rows.now }
-    ensures { RowChecked (model chip.now) rows.now row (bytes_of names.old) result (bytes_of names.new) }
+    ensures { RowChecked (C.Chip.model chip.now) rows.now row (bytes_of names.old) result (bytes_of names.new) }
 {
     let Look::Record(tag) = rows[row] else {
         return Ok(());
@@ -143,9 +143,9 @@ pub(crate) fn check_rows<C: Chip>(
     rows: &[Look],
     names: &mut Names,
 ) -> Result<(), Refusal>
-    requires table { TableOf (model chip.now) sizes rows.now }
+    requires table { TableOf (C.Chip.model chip.now) sizes rows.now }
     requires empty { Empty (bytes_of names.old) }
-    ensures { RowsChecked (model chip.now) rows.now result (bytes_of names.new) }
+    ensures { RowsChecked (C.Chip.model chip.now) rows.now result (bytes_of names.new) }
 {
     for row in 0..rows.len() {
         check_row(chip, sizes, rows, row, names)?;

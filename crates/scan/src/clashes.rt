@@ -13,7 +13,7 @@ fn same_bytes(a: &[u8], b: &[u8]) -> bool
 
 // Whether two records have the same data bytes.
 fn same_data<C: Chip>(chip: &C, a: Place, b: Place) -> Result<bool, Fault>
-    ensures { SameData (model chip.now) a b result }
+    ensures { SameData (C.Chip.model chip.now) a b result }
 {
     let mut first = [0u8; 2048];
     let mut second = [0u8; 2048];
@@ -49,10 +49,10 @@ fn clash_at<C: Chip>(
     row: usize,
     other: usize,
 ) -> Result<bool, Fault>
-    requires table { TableOf (model chip.now) sizes rows.now }
+    requires table { TableOf (C.Chip.model chip.now) sizes rows.now }
     requires row { row < length rows.now }
     requires other { other < length rows.now }
-    ensures { ClashAt (model chip.now) row other result }
+    ensures { ClashAt (C.Chip.model chip.now) row other result }
 {
     match clash_by_tags(rows[row], rows[other]) {
         Some(clash) => Ok(clash),
@@ -62,9 +62,9 @@ fn clash_at<C: Chip>(
 
 // Whether a row's record is unlike an earlier one with its serial.
 fn clash_before<C: Chip>(chip: &C, sizes: Sizes, rows: &[Look], row: usize) -> Result<bool, Fault>
-    requires table { TableOf (model chip.now) sizes rows.now }
+    requires table { TableOf (C.Chip.model chip.now) sizes rows.now }
     requires row { row < length rows.now }
-    ensures { ClashBefore (model chip.now) row result }
+    ensures { ClashBefore (C.Chip.model chip.now) row result }
 {
     for earlier in 0..row {
         if clash_at(chip, sizes, rows, row, earlier)? {
@@ -80,8 +80,8 @@ pub(crate) fn first_clash<C: Chip>(
     sizes: Sizes,
     rows: &[Look],
 ) -> Result<Option<Place>, Fault>
-    requires { TableOf (model chip.now) sizes rows.now }
-    ensures { Clashed (model chip.now) result }
+    requires { TableOf (C.Chip.model chip.now) sizes rows.now }
+    ensures { Clashed (C.Chip.model chip.now) result }
 {
     for row in 0..rows.len() {
         if clash_before(chip, sizes, rows, row)? {

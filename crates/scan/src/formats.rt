@@ -18,8 +18,8 @@ pub(crate) fn fits(sizes: Sizes) -> bool
 
 // Whether every chunk of a block is blank.
 fn is_blank<C: Chip>(chip: &C, block: u32, chunks: u32) -> Result<bool, Fault>
-    requires { (chunks ≡ (model chip.now).p) × ((block < (model chip.now).n) × ((model chip.now).on ≡ true)) }
-    ensures { MatchResult result (λ b. MatchBool b (BlankBlock (model chip.now) block) (BlankBlock (model chip.now) block → ⊥)) (λ f. ⊥) }
+    requires { (chunks ≡ (C.Chip.model chip.now).p) × ((block < (C.Chip.model chip.now).n) × ((C.Chip.model chip.now).on ≡ true)) }
+    ensures { MatchResult result (λ b. MatchBool b (BlankBlock (C.Chip.model chip.now) block) (BlankBlock (C.Chip.model chip.now) block → ⊥)) (λ f. ⊥) }
 {
     for chunk in 0..chunks {
         match chip.look(Place { block, chunk })? {
@@ -32,8 +32,8 @@ fn is_blank<C: Chip>(chip: &C, block: u32, chunks: u32) -> Result<bool, Fault>
 
 // Erases a block unless it is blank.
 fn clear_block<C: Chip>(chip: &mut C, block: u32, chunks: u32) -> Result<(), Fault>
-    requires { (chunks ≡ (model chip.old).p) × ((block < (model chip.old).n) × ((model chip.old).on ≡ true)) }
-    ensures { Cleared (model chip.old) block result (model chip.new) }
+    requires { (chunks ≡ (C.Chip.model chip.old).p) × ((block < (C.Chip.model chip.old).n) × ((C.Chip.model chip.old).on ≡ true)) }
+    ensures { Cleared (C.Chip.model chip.old) block result (C.Chip.model chip.new) }
 {
     if is_blank(chip, block, chunks)? {
         return Ok(());
@@ -43,8 +43,8 @@ fn clear_block<C: Chip>(chip: &mut C, block: u32, chunks: u32) -> Result<(), Fau
 
 // Erases each block that is not blank, in rising order.
 fn erase_all<C: Chip>(chip: &mut C, sizes: Sizes) -> Result<(), Fault>
-    requires { (Sized (model chip.old) sizes) × ((model chip.old).on ≡ true) }
-    ensures { ErasedAll (model chip.old) result (model chip.new) }
+    requires { (Sized (C.Chip.model chip.old) sizes) × ((C.Chip.model chip.old).on ≡ true) }
+    ensures { ErasedAll (C.Chip.model chip.old) result (C.Chip.model chip.new) }
 {
     for block in 0..sizes.blocks {
         clear_block(chip, block, sizes.chunks)?;

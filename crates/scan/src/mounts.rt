@@ -39,12 +39,12 @@ fn examine<C: Chip>(
     rows: &mut [Look],
     names: &mut Names,
 ) -> Result<(), Refusal>
-    requires sizes { Sized (model chip.now) sizes }
+    requires sizes { Sized (C.Chip.model chip.now) sizes }
     requires fit { sizes_fit sizes.blocks sizes.chunks ≡ true }
-    requires on { (model chip.now).on ≡ true }
+    requires on { (C.Chip.model chip.now).on ≡ true }
     requires rows { length rows.old ≡ sizes.blocks * sizes.chunks }
     requires empty { Empty (bytes_of names.old) }
-    ensures { Examined (model chip.now) result rows.new (bytes_of names.new) }
+    ensures { Examined (C.Chip.model chip.now) result rows.new (bytes_of names.new) }
 {
     scan(chip, sizes, rows)?;
     check_rows(chip, sizes, rows, names)?;
@@ -70,13 +70,13 @@ pub(crate) fn examine_into<C: Chip>(
     rows: &mut Vec<Look>,
     names: &mut Names,
 ) -> Result<(), Refusal>
-    requires sizes { Sized (model chip.now) sizes }
+    requires sizes { Sized (C.Chip.model chip.now) sizes }
     requires fit { sizes_fit sizes.blocks sizes.chunks ≡ true }
-    requires on { (model chip.now).on ≡ true }
+    requires on { (C.Chip.model chip.now).on ≡ true }
     requires room { vec_len rows.old ≡ 2048 }
     requires empty { Empty (bytes_of names.old) }
     ensures len { vec_len rows.new ≡ 2048 }
-    ensures found { Examined (model chip.now) result (take (sizes.blocks * sizes.chunks) rows.new.items) (bytes_of names.new) }
+    ensures found { Examined (C.Chip.model chip.now) result (take (sizes.blocks * sizes.chunks) rows.new.items) (bytes_of names.new) }
 {
     let count = sizes.blocks as usize * sizes.chunks as usize;
     examine(chip, sizes, &mut rows[0..count], names)

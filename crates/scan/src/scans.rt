@@ -50,10 +50,10 @@ impl Index {
 
 // Looks at every chunk, in rising place, and notes what it is.
 pub(crate) fn scan<C: Chip>(chip: &C, sizes: Sizes, rows: &mut [Look]) -> Result<(), Fault>
-    requires sizes { Sized (model chip.now) sizes }
-    requires on { (model chip.now).on ≡ true }
+    requires sizes { Sized (C.Chip.model chip.now) sizes }
+    requires on { (C.Chip.model chip.now).on ≡ true }
     requires rows { length rows.old ≡ sizes.blocks * sizes.chunks }
-    ensures { Scanned (model chip.now) result rows.new }
+    ensures { Scanned (C.Chip.model chip.now) result rows.new }
 {
     for i in 0..rows.len() {
         rows[i] = chip.look(place_of(i, sizes))?;

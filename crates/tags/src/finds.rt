@@ -17,7 +17,7 @@ pub struct Found {
 
 // The best so far, with one look more.
 fn better<T: Test>(best: Option<Found>, place: usize, look: &Look, test: &T) -> Option<Found>
-    ensures { result ≡ better (holds test.now) best place look.now }
+    ensures { result ≡ better (T.holds test.now) best place look.now }
 {
     let Look::Record(tag) = look else {
         return best;
@@ -39,7 +39,7 @@ fn better<T: Test>(best: Option<Found>, place: usize, look: &Look, test: &T) -> 
 
 // The newest of the records that pass.
 pub fn newest<T: Test>(looks: &[Look], test: &T) -> Option<Found>
-    ensures value { record_of result ≡ newest (λ x. holds test.now x.tag) (records looks.now) }
+    ensures value { record_of result ≡ newest (λ x. T.holds test.now x.tag) (records looks.now) }
     ensures place { InPlace looks.now result }
 {
     let mut best: Option<Found> = None;

@@ -16,7 +16,7 @@ pub trait Test {
 
 // The look tells of a record that passes.
 fn tells<T: Test>(look: &Look, test: &T) -> bool
-    ensures { result ≡ passes_in (holds test.now) look.now }
+    ensures { result ≡ passes_in (T.holds test.now) look.now }
 {
     match look {
         Look::Record(tag) => test.passes(tag),
@@ -26,7 +26,7 @@ fn tells<T: Test>(look: &Look, test: &T) -> bool
 
 // Whether some record passes.
 pub fn any<T: Test>(looks: &[Look], test: &T) -> bool
-    ensures { result ≡ any (λ x. holds test.now x.tag) (records looks.now) }
+    ensures { result ≡ any (λ x. T.holds test.now x.tag) (records looks.now) }
 {
     for look in looks {
         if tells(look, test) {

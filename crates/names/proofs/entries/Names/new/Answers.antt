@@ -6,4 +6,4 @@ pub returns : goal.returns
 returns c =
     let v = c.in_ok-bytes.bytes in
     let f = c.in_ok-bytes.ensures in
-    zeros-empty (vec_len v) (vec_items v) (f.items-if-clones-equal (λ y e. e) ∙ sym (ap (λ (n : ℕ). replicate n 0) f.len))
+    zeros-empty (vec_len v) (vec_items v) (f.items_if_clones_equal (λ y e. e) ∙ sym (ap (λ (n : ℕ). replicate n 0) f.len))
