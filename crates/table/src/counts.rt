@@ -10,7 +10,7 @@ use tags::{Test, any};
 
 // Whether the look tells of a record that passes, and whose serial no earlier look tells of.
 pub(crate) fn first_passes<T: Test>(earlier: &[Look], look: &Look, test: &T) -> bool
-    ensures { result ≡ first_in (holds test.now) (records earlier.now) look.now }
+    ensures { result ≡ first_in (T.holds test.now) (records earlier.now) look.now }
 {
     match look {
         Look::Record(tag) => test.passes(tag) && !any(earlier, &WithSerial(tag.serial)),
@@ -20,7 +20,7 @@ pub(crate) fn first_passes<T: Test>(earlier: &[Look], look: &Look, test: &T) -> 
 
 // How many records pass, each serial once, at its first place.
 pub(crate) fn count_once<T: Test>(looks: &[Look], test: &T) -> usize
-    ensures { result ≡ length (keep (λ x. holds test.now x.tag) (once (records looks.now))) }
+    ensures { result ≡ length (keep (λ x. T.holds test.now x.tag) (once (records looks.now))) }
 {
     let mut count = 0usize;
     for (place, look) in looks.iter().enumerate() {

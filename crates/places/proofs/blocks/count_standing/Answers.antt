@@ -14,10 +14,10 @@ loop-standing-preserved c =
     elim c.if-stands_as.branch [
       | then-stands_as w ↦ (
           let m = count-more (stands_as c.args.wanted) xs blank_s i true c.loop-standing-test.true (sym w.if-stands_as.true ∙ c.stands_as.ensures) in
-          (omega (arith, w.count_is, c.loop-standing.invariant.0), omega (arith, w.count_is, c.loop-standing.invariant.1, m)))
+          (omega (arith, w.count-is, c.loop-standing.invariant.0), omega (arith, w.count-is, c.loop-standing.invariant.1, m)))
       | else-stands_as w ↦ (
           let m = count-more (stands_as c.args.wanted) xs blank_s i false c.loop-standing-test.true (sym w.if-stands_as.false ∙ c.stands_as.ensures) in
-          (omega (arith, w.count_is, c.loop-standing.invariant.0), omega (arith, w.count_is, c.loop-standing.invariant.1, m)))
+          (omega (arith, w.count-is, c.loop-standing.invariant.0), omega (arith, w.count-is, c.loop-standing.invariant.1, m)))
     ]
 
 pub returns : goal.returns

@@ -15,10 +15,10 @@ loop-object-preserved c =
     elim c.if-present.branch [
       | then-present w ↦ (
           let m = count-more rs o true h (sym w.if-present.true ∙ c.present.ensures) in
-          (omega (arith, w.count_is, c.loop-object.invariant.0), omega (arith, w.count_is, c.loop-object.invariant.1, m)))
+          (omega (arith, w.count-is, c.loop-object.invariant.0), omega (arith, w.count-is, c.loop-object.invariant.1, m)))
       | else-present w ↦ (
           let m = count-more rs o false h (sym w.if-present.false ∙ c.present.ensures) in
-          (omega (arith, w.count_is, c.loop-object.invariant.0), omega (arith, w.count_is, c.loop-object.invariant.1, m)))
+          (omega (arith, w.count-is, c.loop-object.invariant.0), omega (arith, w.count-is, c.loop-object.invariant.1, m)))
     ]
 
 pub returns : goal.returns

@@ -7,8 +7,8 @@ pub loop-place-preserved : goal.loop-place-preserved
 loop-place-preserved g c =
     count-step (g.T.Test.holds c.args.test.now) c.args.looks.now c.loop-place.place c.loop-place.count c.if-first_passes.count (Onces (g.T.Test.holds c.args.test.now) [] c.args.looks.now) c.first_passes.result c.loop-place-test.true c.first_passes.ensures
     (elim c.if-first_passes.branch [
-      | then-first_passes w ↦ inl (w.if-first_passes.true, w.count_is)
-      | else-first_passes w ↦ inr (w.if-first_passes.false, w.count_is)
+      | then-first_passes w ↦ inl (w.if-first_passes.true, w.count-is)
+      | else-first_passes w ↦ inr (w.if-first_passes.false, w.count-is)
     ])
     c.loop-place.invariant
 
