@@ -24,7 +24,7 @@ pub invariant_of-self-2 : goal.invariant_of-self-2
 invariant_of-self-2 g c =
     let x = c.mount-done.new.self in
     let knows = subst (λ (w : View). Knows w x) (sym c.new.ensures.1) c.in_ok-done.ensures.leaves in
-    (c.new.ensures.0, (knows-sound (told c.new.result.coded) x knows, tt))
+    record { same = c.new.ensures.0; sure = knows-sound (told c.new.result.coded) x knows }
 
 pub returns : goal.returns
 returns g c =
