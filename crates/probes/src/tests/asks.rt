@@ -56,14 +56,14 @@ fn reads(
     count: usize,
 ) -> Result<(), Fail> {
     let mut buffer = vec![in heap; 0xEEu8; long]?;
-    assert_eq!(rt; store.read(object, position, &mut buffer)?, count);
+    assert_eq!(rt; store.read(object, position, &mut buffer)?, count, "{object} from {position}, {long} bytes");
     for (i, byte) in buffer.iter().enumerate() {
         let expected = if i < count {
             content(object, position.saturating_add(i as u64))
         } else {
             0xEE
         };
-        assert_eq!(rt; *byte, expected, "{}", i);
+        assert_eq!(rt; *byte, expected, "{object} from {position}, {long} bytes: byte {i}");
     }
     Ok(())
 }
@@ -96,9 +96,7 @@ const READS: [(u32, u64, usize, usize); 20] = [
 fn positions(rt: HostRuntime) -> Result<(), Fail> {
     let store = two_files(rt.alloc())?;
     for (object, position, long, count) in READS {
-        reads(&rt, &store, rt.alloc(), object, position, long, count).note(format_args!(
-            "{object} from {position}, {long} bytes"
-        ))?;
+        reads(&rt, &store, rt.alloc(), object, position, long, count)?;
     }
     Ok(())
 }
@@ -128,8 +126,8 @@ fn objects(rt: HostRuntime) -> Result<(), Fail> {
         assert_eq!(rt; buffer == [0xEE; 3], number != 0, "{}", object);
     }
     assert_eq!(rt; [store.size(257)?, store.size(511)?], [4101, 2052]);
-    assert_eq!(rt; store.name(257)?, b"a");
-    assert_eq!(rt; store.name(511)?, &[b'b'; 40]);
+    assert_eq!(rt; store.name(257)?, b"a".as_slice());
+    assert_eq!(rt; store.name(511)?, [b'b'; 40].as_slice());
     Ok(())
 }
 
