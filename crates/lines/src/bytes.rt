@@ -50,5 +50,6 @@ pub fn data(out: &mut String, bytes: &[u8; 2048]) -> fmt::Result
     hexes(out, first)?;
     write!(out, " |")?;
     letters(out, first)?;
-    write!(out, "|")
+    write!(out, "|")?;
+    Ok(())
 }

@@ -28,7 +28,7 @@ fn looked<C: Chip>(out: &mut String, chip: &C, at: Place) -> fmt::Result
             write!(out, "{look}")?;
             held(out, chip, at)
         }
-        Err(fault) => write!(out, "fault {fault}"),
+        Err(fault) => Ok(write!(out, "fault {fault}")?),
     }
 }
 
@@ -38,7 +38,8 @@ fn chunk_line<C: Chip>(out: &mut String, chip: &C, at: Place) -> fmt::Result
 {
     write!(out, "{at}: ")?;
     looked(out, chip, at)?;
-    writeln!(out)
+    writeln!(out)?;
+    Ok(())
 }
 
 // The lines of a block's chunks.

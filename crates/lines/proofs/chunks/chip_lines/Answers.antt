@@ -13,6 +13,6 @@ loop-block-preserved g c =
     let s = g.C.Chip.model c.args.chip.now in
     let b = c.loop-block.block in
     let m = string_bytes c.loop-block.out in
-    let t = string_bytes c.block-lines.new.out in
+    let t = string_bytes c.block_lines.new.out in
     count-more (chip_lines s) (string_bytes c.args.out.now) m t (block_lines s b s.p) b refl c.loop-block.invariant
-    (by-sizes s b c.sizes-sizes.result.chunks m t c.sizes-sizes.ensures.chunks c.in-ok-block-lines.ensures)
+    (by-sizes s b c.sizes-sizes.result.chunks m t c.sizes-sizes.ensures.chunks c.in_ok-block_lines.ensures)

@@ -6,11 +6,11 @@ use Rattle.lines.specs.Chunks.{held_text}
 use Rattle.lines.proofs.Looking.{look-told}
 use Rattle.lines.proofs.chunks.looked.Goals as goal
 
-pub returns-in-ok-write : goal.returns-in-ok-write
-returns-in-ok-write g c =
+pub returns-in_ok-write-in-Ok : goal.returns-in_ok-write-in-Ok
+returns-in_ok-write-in-Ok g c =
     let s = g.C.Chip.model c.args.chip.now in
     let q = c.args.at in
     let v = c.in-Ok.look in
     let P : List ℕ → Type 0 = λ bs. Adds c.args.out.now bs c.held.result c.held.new.out in
     subst P (look-told s q v c.in-Ok.ensures)
-    (adds_then c.args.out.now c.write.new.self c.held.new.out (look_text v) (held_text (s.cells q.block q.chunk)) c.held.result c.in-ok-write.ensures.bytes c.held.ensures)
+    (adds_then c.args.out.now c.write.new.self c.held.new.out (look_text v) (held_text (s.cells q.block q.chunk)) c.held.result c.in_ok-write-in-Ok.ensures.bytes c.held.ensures)
