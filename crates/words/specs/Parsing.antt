@@ -1,5 +1,5 @@
 -- Which words are which command, and which are refused and why. Assumes nothing.
-use Rattle.std.specs.Prelude.{◌≡◌, ℕ, ◌+◌, ◌<◌, true, false, ◌≢◌, ◌⊎◌, List, [], ◌∷◌, map, length, Some, None, Ok, Err, string_bytes, Result, String, slice_index_or}
+use Rattle.std.specs.Prelude.{◌≡◌, ℕ, ◌+◌, ◌<◌, true, false, ◌≢◌, ◌⊎◌, List, [], map, length, Some, None, Ok, Err, string_bytes, Result, String, slice_index_or}
 use Rattle.std.specs.declared.alloc.Global.{Global}
 use Rattle.words.specs.declared.names.Name.{Name}
 use Rattle.words.specs.declared.names.Name.TheVariants.{Help as HelpN, Demo as DemoN, New as NewN, Dump as DumpN}

@@ -39,7 +39,8 @@ impl Name {
 fn usage_of(out: &mut String, name: Name) -> fmt::Result
     ensures { Adds out.old (usage_of name) result out.new }
 {
-    writeln!(out, "{}\n    {}", name.synopsis(), name.purpose())
+    writeln!(out, "{}\n    {}", name.synopsis(), name.purpose())?;
+    Ok(())
 }
 
 fn usage(out: &mut String, names: &[Name]) -> fmt::Result

@@ -1,4 +1,4 @@
-use Rattle.std.proofs.Common.{◌≡◌, ℕ, ◌+◌, ◌-◌, ◌*◌, ◌<◌, ◌≤◌, min, length, get_or, drop, Some, sym, ap, ◌∙◌, arith}
+use Rattle.std.proofs.Common.{◌≡◌, ℕ, ◌+◌, ◌-◌, ◌*◌, min, get_or, drop, Some, sym, ap, ◌∙◌, arith}
 use Rattle.std.proofs.lemmas.List.{at_drop_more, at_drop_all}
 use Rattle.words.specs.Numbers.{read_on}
 use Rattle.words.proofs.Reading.{read-capped, read-digit, read-other}
@@ -10,9 +10,9 @@ loop-b-preserved c =
     let i = c.loop-b.b-index in
     let n = c.loop-b.n in
     let b = get_or xs i 0 in
-    let e : min (10 * n + (b - 48)) 4294967295 ≡ min c.saturating-add-n.result 4294967295 = omega (arith, c.saturating-add-n.ensures, c.saturating-mul.ensures) in (
-      sym (at_drop_more (read_on n) xs i 0 (omega arith) ∙ read-digit n b (drop (i + 1) xs) (omega arith) (omega arith) ∙ read-capped (10 * n + (b - 48)) c.saturating-add-n.result (drop (i + 1) xs) e) ∙ c.loop-b.invariant.0,
-      omega (arith, c.saturating-add-n.type-inv),
+    let e : min (10 * n + (b - 48)) 4294967295 ≡ min c.saturating_add-n.result 4294967295 = omega (arith, c.saturating_add-n.ensures, c.saturating_mul.ensures) in (
+      sym (at_drop_more (read_on n) xs i 0 (omega arith) ∙ read-digit n b (drop (i + 1) xs) (omega arith) (omega arith) ∙ read-capped (10 * n + (b - 48)) c.saturating_add-n.result (drop (i + 1) xs) e) ∙ c.loop-b.invariant.0,
+      omega (arith, c.saturating_add-n.type_inv),
     )
 
 pub returns-then-byte-lt48 : goal.returns-then-byte-lt48
