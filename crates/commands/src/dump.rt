@@ -24,7 +24,8 @@ fn head_line(out: &mut String, sizes: Sizes, on: bool) -> fmt::Result
         sizes.blocks,
         sizes.chunks,
         power(on)
-    )
+    )?;
+    Ok(())
 }
 
 // What the chip in an image is: sizes and power, and a line for each chunk. An image that is off is read all the same.

@@ -26,13 +26,15 @@ impl fmt::Display for Answer {
 fn program_line(out: &mut String, act: Act, tag: Tag, answer: Result<(), Fault>) -> fmt::Result
     ensures { Adds out.old (program_line act tag answer) result out.new }
 {
-    writeln!(out, "{act}: record {tag}: {}", Answer(answer))
+    writeln!(out, "{act}: record {tag}: {}", Answer(answer))?;
+    Ok(())
 }
 
 fn erase_line(out: &mut String, act: Act, answer: Result<(), Fault>) -> fmt::Result
     ensures { Adds out.old (erase_line act answer) result out.new }
 {
-    writeln!(out, "{act}: {}", Answer(answer))
+    writeln!(out, "{act}: {}", Answer(answer))?;
+    Ok(())
 }
 
 // What a fetch from a place gives.
@@ -45,7 +47,7 @@ fn fetched<C: Chip>(out: &mut String, chip: &C, at: Place) -> fmt::Result
             write!(out, "done")?;
             data(out, &bytes)
         }
-        Err(fault) => write!(out, "fault {fault}"),
+        Err(fault) => Ok(write!(out, "fault {fault}")?),
     }
 }
 
@@ -54,7 +56,8 @@ fn fetch_line<C: Chip>(out: &mut String, chip: &C, at: Place) -> fmt::Result
 {
     write!(out, "fetching {at}: ")?;
     fetched(out, chip, at)?;
-    writeln!(out)
+    writeln!(out)?;
+    Ok(())
 }
 
 // Takes a step, and adds what it did to the text.
@@ -64,9 +67,9 @@ fn play<C: Chip>(out: &mut String, chip: &mut C, step: &Step) -> fmt::Result
     match step {
         Step::Restart => {
             chip.restart();
-            writeln!(out, "restart: the chip is on")
+            Ok(writeln!(out, "restart: the chip is on")?)
         }
-        Step::Say(text) => writeln!(out, "{text}"),
+        Step::Say(text) => Ok(writeln!(out, "{text}")?),
         Step::Program(purpose, at, record) => {
             let answer = chip.program(*purpose, *at, record);
             program_line(out, purpose.at(*at), record.tag, answer)

@@ -5,20 +5,20 @@ use Rattle.demos.proofs.demo.demo.Goals as goal
 
 pub returns : goal.returns
 returns c =
-    let p = c.in-ok-play-all.ensures in
-    let q = c.in-ok-play-all-2.ensures in
+    let p = c.in_ok-play_all.ensures in
+    let q = c.in_ok-play_all-2.ensures in
     record {
       first = c.writing.result;
       second = c.erasing.result;
-      start = state_of c.in-ok-chip.chip;
-      left = state_of c.play-all.new.chip;
-      moved = state_of c.in-ok-chip-2.chip;
-      end = state_of c.play-all-2.new.chip;
+      start = state_of c.in_ok-chip.chip;
+      left = state_of c.play_all.new.chip;
+      moved = state_of c.in_ok-chip-2.chip;
+      end = state_of c.play_all-2.new.chip;
       told = p.text;
       then_told = q.text;
-      blank = c.in-ok-chip.ensures;
+      blank = c.in_ok-chip.ensures;
       plays = p.told;
-      moves = c.in-ok-chip-2.ensures;
+      moves = c.in_ok-chip-2.ensures;
       plays_on = q.told;
-      whole = both_told (string_bytes c.new-out.result) (string_bytes c.play-all.new.out) (string_bytes c.play-all-2.new.out) p.text q.text c.new-out.ensures.bytes p.added q.added;
+      whole = both_told (string_bytes c.new-out.result) (string_bytes c.play_all.new.out) (string_bytes c.play_all-2.new.out) p.text q.text c.new-out.ensures.bytes p.added q.added;
     }

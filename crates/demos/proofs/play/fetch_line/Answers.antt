@@ -1,4 +1,5 @@
-use Rattle.std.proofs.Common.{◌++◌, codes}
+use Rattle.std.proofs.Common.{◌++◌, codes, Ok, Result}
+use Rattle.std.specs.declared.fmt.Error.{Error}
 use Rattle.flash.specs.Words.{place_text}
 use Rattle.texts.proofs.Adding.{adds_then}
 use Rattle.demos.specs.Steps.{fetch_text}
@@ -10,6 +11,6 @@ returns g c =
     let a = c.write.new.self in
     let b = c.fetched.new.out in
     let t = c.writeln.new.self in
-    let r = c.writeln.result in
-    adds_then c.args.out.now a t (codes "fetching " ++ (place_text c.args.at ++ codes ": ")) (told ++ codes "\n") r c.in-ok-write.ensures.bytes
-    (adds_then a b t told (codes "\n") r c.in-ok-fetched.ensures c.writeln.ensures.bytes)
+    let r : Result (Unit {0}) Error = Ok tt in
+    adds_then c.args.out.now a t (codes "fetching " ++ (place_text c.args.at ++ codes ": ")) (told ++ codes "\n") r c.in_ok-write.ensures.bytes
+    (adds_then a b t told (codes "\n") r c.in_ok-fetched.ensures c.in_ok-writeln.ensures.bytes)

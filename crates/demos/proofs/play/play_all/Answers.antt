@@ -7,7 +7,7 @@ use Rattle.demos.proofs.play.play_all.Goals as goal
 
 pub loop-step-preserved : goal.loop-step-preserved
 loop-step-preserved g c = told_more c.args.steps.now c.loop-step.step-index (g.C.Chip.model c.args.chip.now) (g.C.Chip.model c.loop-step.chip) (g.C.Chip.model c.play.new.chip)
-    (string_bytes c.args.out.now) (string_bytes c.loop-step.out) (string_bytes c.play.new.out) (omega arith) c.loop-step.invariant c.in-ok-play.ensures
+    (string_bytes c.args.out.now) (string_bytes c.loop-step.out) (string_bytes c.play.new.out) (omega arith) c.loop-step.invariant c.in_ok-play.ensures
 
 pub returns : goal.returns
 returns g c =

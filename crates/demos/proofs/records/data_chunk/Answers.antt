@@ -8,4 +8,4 @@ returns c =
     let n = length c.args.content.now in
     let e : n - 0 ≡ n = omega arith in
     ap {B = Record} (λ (l : List ℕ). record { tag = record { first = c.args.number; second = c.args.object; third = n; serial = c.args.serial }; bytes = l })
-    (laid-is 2048 (n - 0) c.args.content.now c.copy-from-slice.new.self e c.copy-from-slice.ensures.after)
+    (laid-is 2048 (n - 0) c.args.content.now c.copy_from_slice.new.self e c.copy_from_slice.ensures.after)
