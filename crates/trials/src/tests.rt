@@ -18,17 +18,17 @@ fn words(heap: Global, line: &str) -> Result<Vec<String>, AllocError> {
 fn parsed(heap: Global, line: &str) -> Result<String, AllocError> {
     let words = words(heap, line)?;
     match parse(&words) {
-        Ok(Command::Help) => format!(heap, "help"),
-        Ok(Command::Demo) => format!(heap, "demo"),
+        Ok(Command::Help) => format!(in heap; "help"),
+        Ok(Command::Demo) => format!(in heap; "demo"),
         Ok(
             Command::New {
                 file,
                 blocks,
                 chunks,
             },
-        ) => format!(heap, "new {file} with {blocks} blocks of {chunks}"),
-        Ok(Command::Dump { file }) => format!(heap, "dump {file}"),
-        Err(misuse) => format!(heap, "{misuse}"),
+        ) => format!(in heap; "new {file} with {blocks} blocks of {chunks}"),
+        Ok(Command::Dump { file }) => format!(in heap; "dump {file}"),
+        Err(misuse) => format!(in heap; "{misuse}"),
     }
 }
 
@@ -42,7 +42,7 @@ fn refuses(rt: &(impl Abort + AllocGlobal), bytes: &[u8], said: &str) -> Result<
     match dump(heap, bytes.to_vec(heap)?) {
         Ok(_) => Err(Fail::new("it is an image")),
         Err(stop) => {
-            assert_eq!(rt; format!(heap, "{stop}")?.as_str(), said);
+            assert_eq!(rt; format!(in heap; "{stop}")?.as_str(), said);
             Ok(())
         },
     }
