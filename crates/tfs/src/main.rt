@@ -1,11 +1,14 @@
 // The program: it takes the words, reads and writes files and prints. What its words mean is in `words`, and what
 // it computes in `commands` and `demos`.
+#![tactic(auto)]
+
 use commands::create::create;
 use commands::dump::dump;
 use demos::demo::demo;
 use std::fmt::Display;
 use std::fs::OpenOptions;
 use std::io::{ErrorKind, Write};
+use std::process::ExitCode;
 use std::{env, fs, io};
 use texts::stops::Stop;
 use words::parsing::{Command, parse};
@@ -93,13 +96,20 @@ fn arguments(rt: &HostRuntime) -> io::Result<Vec<String>> {
     Ok(words)
 }
 
-fn main(rt: HostRuntime) -> Result<(), Failed> {
-    let words = match arguments(&rt) {
+fn start(rt: &HostRuntime) -> Result<(), Failed> {
+    let words = match arguments(rt) {
         Ok(words) => words,
-        Err(error) => return Err(fail(&rt, error)),
+        Err(error) => return Err(fail(rt, error)),
     };
     match parse(&words) {
-        Ok(command) => run(&rt, command),
-        Err(misuse) => Err(fail(&rt, misuse)),
+        Ok(command) => run(rt, command),
+        Err(misuse) => Err(fail(rt, misuse)),
+    }
+}
+
+fn main(rt: HostRuntime) -> ExitCode {
+    match start(&rt) {
+        Ok(()) => ExitCode::SUCCESS,
+        Err(Failed) => ExitCode::FAILURE,
     }
 }
