@@ -80,7 +80,7 @@ fn made_in_spite(rt: HostRuntime) -> Result<(), Fail> {
     assert!(rt; chip.look(at) == Err(Fault::NoSuchPlace));
     assert!(rt; chip.erase(0) == Err(Fault::NoSuchPlace));
     chip.restart();
-    assert_eq!(rt; chip.into_bytes().as_slice(), old);
+    assert_eq!(rt; chip.into_bytes().as_slice(), old.as_slice());
     Ok(())
 }
 
@@ -108,8 +108,8 @@ fn erases(rt: HostRuntime) -> Result<(), Fail> {
     assert!(rt; chip.erase(1) == Ok(()) && chip.look(at) == Ok(Look::Blank));
     let bytes = chip.into_bytes();
     assert!(rt; bytes.len() == 8268);
-    assert_eq!(rt; &bytes[4138..4144], &[0xFF, 4, 3, 2, 1, 5]);
-    assert_eq!(rt; &bytes[4154..4156], &[0xFF, 9]);
+    assert_eq!(rt; &bytes[4138..4144], [0xFF, 4, 3, 2, 1, 5].as_slice());
+    assert_eq!(rt; &bytes[4154..4156], [0xFF, 9].as_slice());
     Ok(())
 }
 

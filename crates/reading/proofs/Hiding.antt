@@ -8,7 +8,7 @@ use Rattle.flash.specs.declared.chunks.Look.{Look}
 use Rattle.flash.specs.declared.chunks.Look.TheVariants.{Blank}
 use Rattle.rules.specs.declared.kinds.Kind.{Kind}
 use Rattle.rules.specs.declared.kinds.Kind.TheVariants.{Data as data_k, Header as header_k, CutHeader as cut_k, Marker as marker_k, Other as other_k}
-use Rattle.rules.specs.Lists.{Among, largest}
+use Rattle.rules.specs.Lists.{Among}
 use Rattle.rules.specs.Records.{kind, kind_by, object, is_data, is_cut, is_marker}
 use Rattle.rules.specs.Reading.{hidden}
 use Rattle.rules.proofs.Adding.{data-number}

@@ -1,6 +1,5 @@
 -- The reading rule turns on tags alone: tests of bare records are the rules' own. Assumes nothing.
-use Rattle.std.proofs.Common.{◌≡◌, ℕ, Bool, true, false, cond, List, Some, None, Option, sym, refl, ap, ◌∙◌}
-use Rattle.flash.specs.declared.chunks.Tag.{Tag}
+use Rattle.std.proofs.Common.{◌≡◌, ℕ, Bool, true, false, cond, List, Some, None, Option, refl, ap, ◌∙◌}
 use Rattle.flash.specs.declared.chunks.Record.{Record}
 use Rattle.flash.specs.declared.chunks.Look.{Look}
 use Rattle.rules.specs.Records.{kind, kind_by, object, is_header}

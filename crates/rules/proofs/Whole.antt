@@ -7,7 +7,7 @@ use Rattle.rules.specs.Reading.{files, Files, used_by}
 use Rattle.rules.specs.Places.{is_blank_s, is_open_s, Act, runs, clean, to_clean, counts}
 use Rattle.rules.specs.Mounting.{mounted, limit}
 use Rattle.rules.specs.Calls.{Call, create, put, cut, rename, delete, opens, closes, collect, mount}
-use Rattle.rules.specs.Right.{accepted, Made, after, right}
+use Rattle.rules.specs.Right.{accepted, Made, right}
 use Rattle.rules.specs.Refusals.{Store, recs, too_many, first_of, early_table, room_table, refusal}
 use Rattle.rules.specs.Machine.{none, opening, closing, Answer, refused, counted, collected, granted, broken, IsChange, IsCollect, Fills, acts_of, with_flash, with_opened, Step, Event, Run, last_of, taken, made_of}
 use Rattle.rules.specs.Runs.{TwoCleaningsSuffice, AcceptedThroughout, attached, TakesAll, Stands, Cheap, AllCheap, Holds, StepsAreRight, HoldingSuffices, Kept, RunsAreRight}

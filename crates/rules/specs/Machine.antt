@@ -4,7 +4,7 @@ use Rattle.rules.specs.Lists.{any}
 use Rattle.rules.specs.Places.{plan, Flash, Act, runs, clean, to_clean, counts, does}
 use Rattle.rules.specs.Mounting.{mounted, same_record}
 use Rattle.rules.specs.Calls.{Call, create, put, cut, rename, delete, opens, closes, collect, mount, record_of}
-use Rattle.rules.specs.Right.{Made, after}
+use Rattle.rules.specs.Right.{Made}
 use Rattle.rules.specs.Refusals.{Store, recs, refusal}
 use Rattle.rules.specs.Safety.{Failed}
 use Rattle.flash.specs.declared.chunks.Chunk.{Chunk}

@@ -1,11 +1,11 @@
 -- Mounting: how blocks stand after it, and what it refuses. Assumes nothing.
-use Rattle.std.specs.Prelude.{ℕ, suc, ◌+◌, ◌-◌, ◌*◌, Bool, true, false, cond, not, ◌&&◌, ◌||◌, List, [], ◌∷◌, ◌++◌, map, Some, None, Option, ◌==◌, nat_le, nat_lt}
+use Rattle.std.specs.Prelude.{ℕ, suc, ◌-◌, ◌*◌, Bool, true, false, cond, not, ◌&&◌, ◌||◌, List, [], ◌∷◌, ◌++◌, map, Some, None, Option, ◌==◌, nat_le, nat_lt}
 use Rattle.flash.specs.declared.chunks.Record.{Record}
 use Rattle.flash.specs.declared.chunks.Chunk.{Chunk}
 use Rattle.flash.specs.declared.chunks.Chunk.TheVariants.{Blank, Damaged, Holds}
 use Rattle.rules.specs.Lists.{any, or_else, within, same_bytes}
 use Rattle.rules.specs.Records.{is_blank, keeps_rules}
-use Rattle.rules.specs.Reading.{files, used_by, chunk, File, Files, any_object, name_taken}
+use Rattle.rules.specs.Reading.{files, used_by, File, Files, any_object, name_taken}
 use Rattle.rules.specs.Places.{Flash, load}
 use Rattle.flash.specs.Blocks.{standing}
 use Rattle.rules.specs.declared.standings.Standing.{Standing}

@@ -1,5 +1,5 @@
 -- How blocks stand, their load, finding a place for a record, and cleaning. Assumes nothing.
-use Rattle.std.specs.Prelude.{ℕ, zero, suc, ◌+◌, Bool, true, false, cond, not, ◌&&◌, List, [], ◌∷◌, ◌++◌, length, Some, None, Option, ◌==◌, nat_eq, nat_le, slice_index_or, slice_set}
+use Rattle.std.specs.Prelude.{ℕ, zero, suc, Bool, true, false, cond, not, ◌&&◌, List, [], ◌∷◌, ◌++◌, length, Some, None, Option, ◌==◌, nat_eq, nat_le, slice_index_or, slice_set}
 use Rattle.rules.specs.declared.standings.Event.{Event}
 use Rattle.rules.specs.declared.standings.Event.TheVariants.{Opened, Filled, Erased, Mounted}
 use Rattle.rules.specs.declared.standings.Standing.{Standing}

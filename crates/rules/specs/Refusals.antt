@@ -1,5 +1,5 @@
 -- Which refusal each call answers: the first of its table whose condition holds; 0 means none. Assumes nothing.
-use Rattle.std.specs.Prelude.{ℕ, suc, ◌+◌, Bool, true, false, cond, not, ◌&&◌, ◌||◌, List, [], ◌∷◌, ◌++◌, length, Some, None, Option, nat_le, nat_lt}
+use Rattle.std.specs.Prelude.{ℕ, suc, Bool, true, false, cond, not, ◌&&◌, ◌||◌, List, [], ◌∷◌, ◌++◌, length, Some, None, Option, nat_le, nat_lt}
 use Rattle.flash.specs.declared.chunks.Record.{Record}
 use Rattle.flash.specs.Blocks.{standing}
 use Rattle.rules.specs.Lists.{any, largest, within}

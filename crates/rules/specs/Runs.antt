@@ -3,7 +3,7 @@ use Rattle.std.specs.Prelude.{◌≡◌, ℕ, ◌+◌, ◌<◌, ◌≤◌, Bool,
 use Rattle.flash.specs.declared.chunks.Record.{Record}
 use Rattle.rules.specs.Lists.{Among, is_there, count}
 use Rattle.rules.specs.Records.{is_blank}
-use Rattle.rules.specs.Reading.{files, present, Files, used_by, chunk}
+use Rattle.rules.specs.Reading.{files, present, Files, used_by}
 use Rattle.rules.specs.Places.{Flash, Act, adding, copying, erasing, runs, programmed, load, clean, to_clean, add_place, counts, does}
 use Rattle.rules.specs.Mounting.{mounted, verdict, limit}
 use Rattle.rules.specs.Calls.{Call, record_of}

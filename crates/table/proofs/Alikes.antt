@@ -1,5 +1,5 @@
 -- With the data left out, lengths and sizes are the same too. Assumes nothing.
-use Rattle.std.proofs.Common.{◌≡◌, ℕ, zero, suc, ◌+◌, ◌-◌, ◌*◌, ◌≤◌, max, Bool, true, false, ◌&&◌, eqb, leb, List, map, length, take, Some, None, Option, sym, refl, ap, ◌∙◌, subst, arith}
+use Rattle.std.proofs.Common.{◌≡◌, ℕ, zero, suc, ◌+◌, ◌-◌, ◌*◌, ◌≤◌, max, true, false, eqb, leb, List, map, length, take, Some, None, Option, sym, refl, ap, ◌∙◌, subst, arith}
 use Rattle.std.proofs.lemmas.List.{length-take-le}
 use Rattle.std.proofs.lemmas.Bool.{both_ways, and_parts, leb-true, cond-false, ne_eqb}
 use Rattle.std.specs.Option.{option_map}
@@ -8,11 +8,11 @@ use Rattle.rules.specs.declared.kinds.Kind.{Kind}
 use Rattle.rules.specs.declared.kinds.Kind.TheVariants.{Data as data_k, Header as header_k, CutHeader as cut_k, Marker as marker_k, Other as other_k}
 use Rattle.rules.specs.Lists.{Among, is_there, within}
 use Rattle.rules.specs.Records.{kind, is_data, keeps_rules, rules_by}
-use Rattle.rules.specs.Reading.{newest, files, file_of, header, highest_chunk, chunk, bytes_in, size, size_at as file_size, last_count as last_bytes}
+use Rattle.rules.specs.Reading.{files, file_of, header, highest_chunk, chunk, bytes_in, size, size_at as file_size, last_count as last_bytes}
 use Rattle.rules.proofs.Removal.{chunk-there}
 use Rattle.tags.specs.Bare.{bare}
 use Rattle.reading.specs.Sizes.{length_by, length_of, last_count, size_at, size_by, size_of}
-use Rattle.table.specs.Laws.{Alike, BareReadsAlike, SizesAlike}
+use Rattle.table.specs.Laws.{BareReadsAlike, SizesAlike}
 use Rattle.table.proofs.Bares.{any-map, largest-map, newest-map, header-bare, present-bare, hidden-bare, chunk-bare, highest-bare, topped-bare, replaced-bare, outmarked-bare, older-bare, hides-bare, in_file-bare, wants-bare, used-bare}
 
 thirds : (top : ℕ) (m : Option Record) → length_by (option_map bare m) top ≡ length_by m top

@@ -6,10 +6,10 @@ use Rattle.flash.specs.declared.chunks.Chunk.{Chunk}
 use Rattle.flash.specs.declared.chunks.Chunk.TheVariants.{Blank, Damaged, Holds}
 use Rattle.flash.specs.declared.chunks.Look.{Look}
 use Rattle.flash.specs.declared.chunks.Look.TheVariants.{Blank as blank_l}
-use Rattle.flash.specs.Blocks.{cons_record, records_of, standing, chunk_at}
+use Rattle.flash.specs.Blocks.{records_of, standing}
 use Rattle.flash.specs.Chunks.{look_of}
-use Rattle.rules.specs.Lists.{any, keep, cons_if}
-use Rattle.rules.specs.Reading.{wanted, once}
+use Rattle.rules.specs.Lists.{keep, cons_if}
+use Rattle.rules.specs.Reading.{once}
 use Rattle.rules.specs.Places.{makes_load, load_list, load}
 use Rattle.tags.specs.Bare.{bare, bare_of, bares, records}
 use Rattle.table.specs.Laws.{bare_blocks, BlocksAlike, chosen, chosen_if, LoadByRows, Mirrors, TableMirrors}

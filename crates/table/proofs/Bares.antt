@@ -1,15 +1,14 @@
 -- What the rules say of records turns on their tags alone: with the data left out they say the same. Assumes nothing.
-use Rattle.std.proofs.Common.{◌≡◌, ℕ, max, Bool, true, false, cond, not, ◌&&◌, ◌||◌, eqb, ltb, List, [], ◌∷◌, map, length, Some, None, Option, sym, refl, ap, ◌∙◌}
+use Rattle.std.proofs.Common.{◌≡◌, ℕ, max, Bool, true, false, cond, not, ◌&&◌, ◌||◌, eqb, ltb, List, [], ◌∷◌, map, length, Some, None, Option, refl, ap, ◌∙◌}
 use Rattle.std.proofs.lemmas.List.{length-map}
 use Rattle.std.specs.Option.{option_map}
-use Rattle.flash.specs.declared.chunks.Tag.{Tag}
 use Rattle.flash.specs.declared.chunks.Record.{Record}
 use Rattle.rules.specs.declared.kinds.Kind.{Kind}
 use Rattle.rules.specs.declared.kinds.Kind.TheVariants.{Data as data_k, Header as header_k, CutHeader as cut_k, Marker as marker_k, Other as other_k}
 use Rattle.rules.specs.Lists.{any, keep, cons_if, largest, is_there}
 use Rattle.rules.specs.Records.{kind, object, is_data, is_header, is_marker}
-use Rattle.rules.specs.Reading.{newest, newer_if, newer_of, head_of, data_of, header, header_only, present, hides, hidden, chunk, unhidden, number_there, highest_chunk, topped, replaced, outmarked, has_older, hides_some, in_file_by, in_file, wanted_by, wanted, once, used}
-use Rattle.tags.specs.Bare.{bare_tag, bare}
+use Rattle.rules.specs.Reading.{newest, newer_if, head_of, data_of, header, header_only, present, hides, hidden, chunk, unhidden, number_there, highest_chunk, topped, replaced, outmarked, has_older, hides_some, in_file_by, in_file, wanted_by, wanted, once, used}
+use Rattle.tags.specs.Bare.{bare}
 use Rattle.table.proofs.Onces.{keep-alike}
 
 -- one record bare

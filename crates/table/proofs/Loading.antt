@@ -1,5 +1,5 @@
 -- The load of a block, by the rows of the table. Assumes nothing.
-use Rattle.std.proofs.Common.{◌≡◌, ℕ, zero, suc, ◌+◌, ◌-◌, ◌*◌, ◌<◌, ◌≤◌, Bool, not, ◌&&◌, eqb, List, [], ◌∷◌, ◌++◌, map, length, get_or, take, drop, set, sym, refl, ap, ◌∙◌, mul-le-mul_right, arith, length-drop, length-take-le}
+use Rattle.std.proofs.Common.{◌≡◌, ℕ, zero, suc, ◌+◌, ◌-◌, ◌*◌, ◌<◌, ◌≤◌, Bool, not, ◌&&◌, eqb, List, [], ◌∷◌, ◌++◌, length, get_or, take, drop, set, sym, refl, ap, ◌∙◌, mul-le-mul_right, arith, length-drop, length-take-le}
 use Rattle.std.proofs.lemmas.List.{length-map, take-map, drop-map}
 use Rattle.flash.specs.declared.chunks.Tag.{Tag}
 use Rattle.flash.specs.declared.chunks.Record.{Record}
@@ -8,8 +8,8 @@ use Rattle.flash.specs.declared.chunks.Chunk.TheVariants.{Blank as blank_c, Dama
 use Rattle.flash.specs.declared.chunks.Look.{Look}
 use Rattle.flash.specs.declared.chunks.Look.TheVariants.{Blank, Damaged, Record as record_l}
 use Rattle.flash.specs.Blocks.{records_of, standing}
-use Rattle.rules.specs.Lists.{any, keep}
-use Rattle.rules.specs.Reading.{wanted, once}
+use Rattle.rules.specs.Lists.{keep}
+use Rattle.rules.specs.Reading.{once}
 use Rattle.rules.specs.Places.{makes_load, load_list, load}
 use Rattle.tags.specs.Bare.{bare_tag, bare, bare_of, bares, records}
 use Rattle.tags.specs.Steps.{passes_in}

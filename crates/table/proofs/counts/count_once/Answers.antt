@@ -1,4 +1,4 @@
-use Rattle.std.proofs.Common.{[], sym, ◌∙◌, inl, inr, arith}
+use Rattle.std.proofs.Common.{[], inl, inr}
 use Rattle.table.proofs.Onces.{Onces, count-step, count-end}
 use Rattle.table.proofs.counts.count_once.Goals as goal
 use Rattle.table.proofs.counts.count_once.Goals.{then-first_passes, else-first_passes}

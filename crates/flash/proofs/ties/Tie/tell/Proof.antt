@@ -16,7 +16,7 @@ use types.Run.{of_opd, unit_lit, returns, enter}
 use types.ByLocal.{alloc_all, pass_all, free_all, look_at, sets}
 use denote.Builtin.{RefOf, unit}
 use denote.Exit.{yes}
-use denote.Memory.{shared_of, hidden_shr}
+use denote.Memory.{hidden_shr}
 use denote.Opens.{shr_dup, unhide}
 use denote.Param.{bounded, param}
 use denote.RattleType.{RattleType, owns}
