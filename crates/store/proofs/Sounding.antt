@@ -1,8 +1,9 @@
 -- The test of a running store, and the facts that it tells. Assumes nothing.
-use Rattle.std.proofs.Common.{◌≡◌, ℕ, zero, suc, ◌+◌, ◌*◌, ◌≤◌, Bool, true, false, not, ◌&&◌, ◌||◌, eqb, ◌⊎◌, List, [], ◌∷◌, map, Some, None, Option, sym, refl, ap, ◌∙◌, subst, inl, inr, arith}
+use Rattle.std.proofs.Common.{◌≡◌, ℕ, zero, suc, ◌+◌, ◌*◌, ◌≤◌, Bool, true, false, not, ◌&&◌, ◌||◌, eqb, ◌⊎◌, List, [], ◌∷◌, map, take, Some, None, vec_items, Option, sym, refl, ap, ◌∙◌, subst, inl, inr, arith}
 use Rattle.std.proofs.lemmas.Bool.{both_ways, and_parts, and_from, not-true, not-false, not_from_false, not_from_true, eqb-true, eq-eqb, cases_Bool, or_from}
 use Rattle.flash.specs.declared.chunks.Tag.{Tag}
 use Rattle.flash.specs.declared.chunks.Look.{Look}
+use Rattle.flash.specs.declared.chunks.Sizes.{Sizes}
 use Rattle.flash.specs.declared.chunks.Look.TheVariants.{Blank, Damaged, Record as RecordL}
 use Rattle.flash.specs.Model.{View}
 use Rattle.flash.specs.Blocks.{standing}
@@ -12,12 +13,12 @@ use Rattle.rules.specs.Lists.{is_there, same_bytes}
 use Rattle.rules.specs.Reading.{Files, files, any_up, any_object}
 use Rattle.rules.specs.Mounting.{sizes_fit, mounted_block, verdict, Fault}
 use Rattle.rules.proofs.Objects.{object-true, object-false, object-none}
-use Rattle.names.specs.Names.{name_at, name_if, Mirrors}
+use Rattle.names.specs.Names.{name_at, name_if, bytes_of, Mirrors}
 use Rattle.scan.specs.declared.indexes.Index.{Index}
 use Rattle.scan.specs.Flat.{looks_of}
-use Rattle.scan.specs.Indexes.{looks_in, stands_in, names_in, Knows}
+use Rattle.scan.specs.Indexes.{looks_in, Knows}
 use Rattle.scan.specs.Mounts.{whole_all}
-use Rattle.store.specs.Sound.{same_tag, same_look, same_looks, standing_number, same_standings, same_name, same_names, sound}
+use Rattle.store.specs.Sound.{same_tag, same_look, same_looks, standing_number, same_standings, same_name, same_names, sound, Facts, sized_as}
 
 bytes-true : (xs ys : List ℕ) → same_bytes xs ys ≡ true → xs ≡ ys
 bytes-true [] [] e = refl
@@ -115,31 +116,70 @@ none-there : {A : Type 0} (m : Option A) → not (is_there m) ≡ true → m ≡
 none-there None e = refl
 none-there (Some x) e = absurd (both_ways false refl e)
 
-pub sound-knows : (v : View) (x : Index) → sound true v x ≡ true → Knows v x
-sound-knows v x e =
+pub sound-facts : (v : View) (rows : List Look) (stands : List Standing) (bytes : List ℕ) → sound true v rows stands bytes ≡ true → Facts v rows stands bytes
+sound-facts v rows stands bytes e =
     let a = and_parts v.on _ e in
-    let h = and_parts (eqb x.sizes.blocks v.n) _ a.1 in
-    let i = and_parts (eqb x.sizes.chunks v.p) _ h.1 in
-    let b = and_parts (sizes_fit v.n v.p) _ i.1 in
-    let c = and_parts (same_looks (looks_in x) (looks_of v.blocks)) _ b.1 in
-    let d = and_parts (same_standings (stands_in x) (map mounted_block v.blocks)) _ c.1 in
+    let b = and_parts (sizes_fit v.n v.p) _ a.1 in
+    let c = and_parts (same_looks (take (v.n * v.p) rows) (looks_of v.blocks)) _ b.1 in
+    let d = and_parts (same_standings (take v.n stands) (map mounted_block v.blocks)) _ c.1 in
     let f = and_parts (whole_all (standing v.blocks)) _ d.1 in
     let g = and_parts (not (is_there (verdict v.n v.p v.blocks))) _ f.1 in
     record {
       on = a.0;
-      blocks = eqb-true _ _ h.0;
-      chunks = eqb-true _ _ i.0;
       sizes = b.0;
       mirror = looks-true _ _ c.0;
       standings = stands-true _ _ d.0;
       whole = f.0;
       accepted = none-there _ g.0;
-      named = names-true (names_in x) (files (standing v.blocks)) g.1;
+      named = names-true bytes (files (standing v.blocks)) g.1;
     }
 
-pub knows-sound : (v : View) (x : Index) → Knows v x → sound true v x ≡ true
-knows-sound v x t =
-    and_from _ _ t.on (and_from _ _ (eq-eqb _ _ t.blocks) (and_from _ _ (eq-eqb _ _ t.chunks) (and_from _ _ t.sizes
+pub facts-sound : (v : View) (rows : List Look) (stands : List Standing) (bytes : List ℕ) → Facts v rows stands bytes → sound true v rows stands bytes ≡ true
+facts-sound v rows stands bytes t =
+    and_from _ _ t.on (and_from _ _ t.sizes
     (and_from _ _ (ap (λ (z : List Look). same_looks z (looks_of v.blocks)) t.mirror ∙ looks-self (looks_of v.blocks))
     (and_from _ _ (ap (λ (z : List Standing). same_standings z (map mounted_block v.blocks)) t.standings ∙ bytes-self (map standing_number (map mounted_block v.blocks)))
-    (and_from _ _ t.whole (and_from _ _ (ap (λ (z : Option Fault). not (is_there z)) t.accepted) (names-from (names_in x) (files (standing v.blocks)) t.named))))))))
+    (and_from _ _ t.whole (and_from _ _ (ap (λ (z : Option Fault). not (is_there z)) t.accepted) (names-from bytes (files (standing v.blocks)) t.named))))))
+
+-- a stopped store owes nothing
+pub stopped-sound : (v : View) (rows : List Look) (stands : List Standing) (bytes : List ℕ) → sound false v rows stands bytes ≡ true
+stopped-sound v rows stands bytes = refl
+
+-- the looks in an index of these sizes
+looks-at : (v : View) (x : Index) → x.sizes.blocks ≡ v.n → x.sizes.chunks ≡ v.p → looks_in x ≡ take (v.n * v.p) (vec_items x.rows)
+looks-at v x b c = ap (λ (n : ℕ). take (n * x.sizes.chunks) (vec_items x.rows)) b ∙ ap (λ (n : ℕ). take (v.n * n) (vec_items x.rows)) c
+
+-- the sizes that the index has
+sized-parts : (v : View) (z : Sizes) → sized_as true v z ≡ true → (z.blocks ≡ v.n) × (z.chunks ≡ v.p)
+sized-parts v z e = let a = and_parts (eqb z.blocks v.n) _ e in (eqb-true _ _ a.0, eqb-true _ _ a.1)
+
+-- with them, the facts of a running store are that its index knows the chip
+pub facts-known : (v : View) (x : Index) → sized_as true v x.sizes ≡ true → Facts v (vec_items x.rows) (vec_items x.standings) (bytes_of x.names) → Knows v x
+facts-known v x e t =
+    let z = sized-parts v x.sizes e in
+    record {
+      on = t.on;
+      blocks = z.0;
+      chunks = z.1;
+      sizes = t.sizes;
+      mirror = looks-at v x z.0 z.1 ∙ t.mirror;
+      standings = ap (λ (n : ℕ). take n (vec_items x.standings)) z.0 ∙ t.standings;
+      whole = t.whole;
+      accepted = t.accepted;
+      named = t.named;
+    }
+
+pub known-sized : (v : View) (x : Index) → Knows v x → sized_as true v x.sizes ≡ true
+known-sized v x k = and_from _ _ (eq-eqb _ _ k.blocks) (eq-eqb _ _ k.chunks)
+
+pub known-facts : (v : View) (x : Index) → Knows v x → Facts v (vec_items x.rows) (vec_items x.standings) (bytes_of x.names)
+known-facts v x k =
+    record {
+      on = k.on;
+      sizes = k.sizes;
+      mirror = sym (looks-at v x k.blocks k.chunks) ∙ k.mirror;
+      standings = ap (λ (n : ℕ). take n (vec_items x.standings)) (sym k.blocks) ∙ k.standings;
+      whole = k.whole;
+      accepted = k.accepted;
+      named = k.named;
+    }

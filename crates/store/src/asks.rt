@@ -27,21 +27,21 @@ impl<C: Chip> Store<C> {
 
     // The object of the file that has the name, if there is one.
     pub fn find(&self, name: &[u8]) -> Result<Option<u32>, Refusal>
-        ensures { FindAnswered (store_of (C.Chip.model self.now.chip) self.now.running self.now.held self.now.index) name.now result }
+        ensures { FindAnswered (store_of (C.Chip.model self.now.chip) self.now.running self.now.held self.now.index.standings.items) name.now result }
     {
         questions::find(self.known()?, name)
     }
 
     // The name of a file.
     pub fn name(&self, object: u32) -> Result<&[u8], Refusal>
-        ensures { Answered (size_table (store_of (C.Chip.model self.now.chip) self.now.running self.now.held self.now.index) object) result (λ name. OfFile (store_of (C.Chip.model self.now.chip) self.now.running self.now.held self.now.index) object (λ f. name.now ≡ f.name)) (Unit {0}) }
+        ensures { Answered (size_table (store_of (C.Chip.model self.now.chip) self.now.running self.now.held self.now.index.standings.items) object) result (λ name. OfFile (store_of (C.Chip.model self.now.chip) self.now.running self.now.held self.now.index.standings.items) object (λ f. name.now ≡ f.name)) (Unit {0}) }
     {
         questions::name(self.known()?, object)
     }
 
     // How many bytes a file has.
     pub fn size(&self, object: u32) -> Result<u32, Refusal>
-        ensures { SizeAnswered (store_of (C.Chip.model self.now.chip) self.now.running self.now.held self.now.index) object result }
+        ensures { SizeAnswered (store_of (C.Chip.model self.now.chip) self.now.running self.now.held self.now.index.standings.items) object result }
     {
         questions::size(self.known()?, object)
     }
@@ -49,21 +49,21 @@ impl<C: Chip> Store<C> {
     // Reads the bytes of a file from a position on, as many as the buffer holds or the size allows, and answers their
     // number. The bytes of the buffer beyond them stay.
     pub fn read(&self, object: u32, position: u64, buffer: &mut [u8]) -> Result<usize, Refusal>
-        ensures { ReadAnswered (store_of (C.Chip.model self.now.chip) self.now.running self.now.held self.now.index) object position buffer.old result buffer.new }
+        ensures { ReadAnswered (store_of (C.Chip.model self.now.chip) self.now.running self.now.held self.now.index.standings.items) object position buffer.old result buffer.new }
     {
         questions::read(self.known()?, &self.chip, object, position, buffer)
     }
 
     // Writes a row for each file, by rising object number, and answers their number. The rows beyond them stay.
     pub fn list(&self, rows: &mut [Row]) -> Result<usize, Refusal>
-        ensures { ListAnswered (store_of (C.Chip.model self.now.chip) self.now.running self.now.held self.now.index) rows.old result rows.new }
+        ensures { ListAnswered (store_of (C.Chip.model self.now.chip) self.now.running self.now.held self.now.index.standings.items) rows.old result rows.new }
     {
         questions::list(self.known()?, rows)
     }
 
     // Counts what there is on the chip.
     pub fn count_all(&self) -> Result<Totals, Refusal>
-        ensures { Answered (running_table (store_of (C.Chip.model self.now.chip) self.now.running self.now.held self.now.index)) result (λ t. Counted (C.Chip.model self.now.chip) (stands_in self.now.index) t) (Unit {0}) }
+        ensures { Answered (running_table (store_of (C.Chip.model self.now.chip) self.now.running self.now.held self.now.index.standings.items)) result (λ t. Counted (C.Chip.model self.now.chip) (stands_in self.now.index) t) (Unit {0}) }
     {
         Ok(questions::count_all(self.known()?))
     }

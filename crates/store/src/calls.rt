@@ -1,6 +1,6 @@
 ghost use Rattle.std.specs.Prelude.{◌≡◌, true, false, MatchResult};
 ghost use Rattle.flash.specs.Model.{started, blocks_of};
-ghost use Rattle.rules.specs.Mounting.{verdict};
+ghost use Rattle.rules.specs.Mounting.{verdict, mounted};
 ghost use Rattle.scan.specs.Formats.{Formatted};
 ghost use Rattle.scan.specs.Mounts.{verdict_of, runs};
 ghost use Rattle.store.specs.Stores.{NoneHeld, store_of, LeftByMount};
@@ -77,7 +77,8 @@ impl<C: Chip> Store<C> {
         ensures chip { C.Chip.model self.new.chip ≡ started (C.Chip.model self.old.chip) }
         ensures answers { verdict_of result ≡ verdict (C.Chip.model self.old.chip).n (C.Chip.model self.old.chip).p (blocks_of (C.Chip.model self.old.chip)) }
         ensures runs { (self.new.running ≡ runs result) × NoneHeld self.new.held }
-        ensures stands { LeftByMount (store_of (C.Chip.model self.old.chip) self.old.running self.old.held self.old.index) result (store_of (C.Chip.model self.new.chip) self.new.running self.new.held self.new.index) }
+        ensures stands { runs result ≡ true → (store_of (C.Chip.model self.new.chip) self.new.running self.new.held self.new.index.standings.items).flash ≡ mounted (blocks_of (C.Chip.model self.old.chip)) }
+        ensures leaves { LeftByMount (store_of (C.Chip.model self.old.chip) self.old.running self.old.held self.old.index.standings.items) result (store_of (C.Chip.model self.new.chip) self.new.running self.new.held self.new.index.standings.items) }
     {
         self.running = false;
         self.held = none_held();

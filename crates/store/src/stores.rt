@@ -1,6 +1,7 @@
 ghost use Rattle.std.specs.Prelude.{◌≡◌, true};
 ghost use Rattle.flash.specs.Coding.{told};
-ghost use Rattle.store.specs.Sound.{sound};
+ghost use Rattle.names.specs.Names.{bytes_of};
+ghost use Rattle.store.specs.Sound.{sized_as, sound};
 
 use flash::{Chip, Tie};
 use scan::Index;
@@ -14,5 +15,6 @@ pub struct Store<C: Chip> {
     pub(crate) held: [bool; 255],
     pub(crate) running: bool,
     ghost same: { tie.of ≡ chip },
-    ghost sure: { sound running (told tie.coded) index ≡ true },
+    ghost sized: { sized_as running (told tie.coded) index.sizes ≡ true },
+    ghost sure: { sound running (told tie.coded) index.rows.items index.standings.items (bytes_of index.names) ≡ true },
 }
