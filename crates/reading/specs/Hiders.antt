@@ -1,9 +1,11 @@
 -- What hides the chunks of an object, by chunk number: the largest serial of a record that hides there. Only private functions cite these. Assumes nothing.
 use Rattle.std.specs.Prelude.{◌≡◌, ℕ, zero, suc, ◌<◌, max, cond, not, ◌&&◌, List, length, Some, None, Option, ◌==◌, nat_lt, slice_index, slice_set}
 use Rattle.flash.specs.declared.chunks.Tag.{Tag}
+use Rattle.flash.specs.declared.chunks.Record.{Record}
 use Rattle.rules.specs.declared.kinds.Kind.{Kind}
 use Rattle.rules.specs.declared.kinds.Kind.TheVariants.{Data as data_k, Header as header_k, CutHeader as cut_k, Marker as marker_k, Other as other_k}
 use Rattle.rules.specs.Records.{kind_by, object, is_data}
+use Rattle.rules.specs.Reading.{hidden}
 use Rattle.tags.specs.Bare.{bare_tag}
 
 -- a record hides above this chunk number: a marker above 0, a cut header above its length, any other nowhere
@@ -43,6 +45,10 @@ most_of xs (suc n) = max (most_of xs n) (slice_index xs n)
 abbrev pub Carried : List ℕ → List ℕ → Type 0
 Carried old new = (k : ℕ) → k < length old → slice_index new k ≡ most_of old k
 
+-- the chunk number of a data record of the object that is not hidden, or 0
+abbrev pub shown_number : List Record → ℕ → Record → ℕ
+shown_number rs o r = cond (object r == o && (is_data (kind_by r.tag.first) && not (hidden rs r))) r.tag.first 0
+
 -- the chunk number of a data record of the object o whose serial is not below that of what hides there, or 0
-abbrev pub shown_number : List ℕ → ℕ → Tag → ℕ
-shown_number hiders o t = cond (object (bare_tag t) == o && (is_data (kind_by t.first) && not (nat_lt t.serial (slice_index hiders t.first)))) t.first 0
+abbrev pub shown_by : List ℕ → ℕ → Tag → ℕ
+shown_by hiders o t = cond (object (bare_tag t) == o && (is_data (kind_by t.first) && not (nat_lt t.serial (slice_index hiders t.first)))) t.first 0

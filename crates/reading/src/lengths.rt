@@ -4,7 +4,7 @@ ghost use Rattle.rules.specs.Records.{kind_by, is_data};
 ghost use Rattle.rules.specs.Reading.{highest_chunk, chunk};
 ghost use Rattle.tags.specs.Bare.{records};
 ghost use Rattle.tags.specs.Steps.{number_in};
-ghost use Rattle.reading.specs.Hiders.{shown_number};
+ghost use Rattle.reading.specs.Hiders.{shown_by};
 ghost use Rattle.reading.specs.Sizes.{length_of, last_count, size_of};
 
 use crate::hiders::{carry, note_all};
@@ -33,7 +33,7 @@ fn is_data(tag: &Tag) -> bool
 // The chunk number of a data record of the object that is not hidden, or 0.
 fn shown_number(hiders: &[u32], object: u32, tag: &Tag) -> u32
     requires { 1000 < length hiders.now }
-    ensures { result ≡ shown_number hiders.now object tag.now }
+    ensures { result ≡ shown_by hiders.now object tag.now }
 {
     if object_of(tag) == object && is_data(tag) && !is_hidden(hiders, tag) {
         tag.first
@@ -44,7 +44,7 @@ fn shown_number(hiders: &[u32], object: u32, tag: &Tag) -> u32
 
 fn number_at(hiders: &[u32], object: u32, look: &Look) -> u32
     requires { 1000 < length hiders.now }
-    ensures { result ≡ number_in (shown_number hiders.now object) look.now }
+    ensures { result ≡ number_in (shown_by hiders.now object) look.now }
 {
     match look {
         Look::Record(tag) => shown_number(hiders, object, tag),
@@ -55,7 +55,7 @@ fn number_at(hiders: &[u32], object: u32, look: &Look) -> u32
 // The highest chunk number of a data record of the object that is not hidden, or 0.
 fn highest_shown(hiders: &[u32], object: u32, looks: &[Look]) -> u32
     requires { 1000 < length hiders.now }
-    ensures { result ≡ largest (λ x. shown_number hiders.now object x.tag) (records looks.now) }
+    ensures { result ≡ largest (λ x. shown_by hiders.now object x.tag) (records looks.now) }
 {
     let mut highest = 0u32;
     for look in looks {
