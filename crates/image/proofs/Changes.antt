@@ -1,5 +1,5 @@
 -- A chip after each call that writes. Assumes nothing.
-use Rattle.std.proofs.Common.{◌≡◌, ℕ, ◌+◌, ◌-◌, ◌<◌, ◌≤◌, true, eqb, ◌≢◌, ◌⊎◌, List, ◌++◌, length, get_or, take, drop, set, vec_items, Vec, sym, ap, ◌∙◌, subst, inl, ⊎_elim, arith}
+use Rattle.std.proofs.Common.{◌≡◌, ℕ, ◌+◌, ◌-◌, ◌<◌, ◌≤◌, true, eqb, ◌≢◌, List, ◌++◌, length, get_or, take, drop, set, vec_items, Vec, sym, ap, ◌∙◌, subst, inl, ⊎_elim, arith}
 use borrow.Rule.Slice.PartMut.{put_mid}
 use Rattle.std.proofs.lemmas.List.{length-append, length-take-le, length-drop, length-set, get_or_append_left, get_or-append_right, get_or-take, get_or-drop, get_or-set_same, get_or-set_other, drop-drop, drop-set-lt, take_at, drop_at, with_items_is}
 use Rattle.std.proofs.lemmas.Bool.{cases_eq}

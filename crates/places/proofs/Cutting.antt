@@ -1,5 +1,5 @@
 -- The rows of a block, cut out of an index that tells of it. Assumes nothing.
-use Rattle.std.proofs.Common.{◌≡◌, ℕ, zero, suc, ◌+◌, ◌-◌, ◌*◌, ◌<◌, ◌≤◌, Bool, true, false, List, [], ◌∷◌, ◌++◌, length, get_or, take, drop, vec_items, Option, sym, refl, ap, ◌∙◌, subst, mul-le-mul_right, arith, length-append}
+use Rattle.std.proofs.Common.{◌≡◌, ℕ, zero, suc, ◌+◌, ◌-◌, ◌*◌, ◌<◌, ◌≤◌, Bool, List, [], ◌∷◌, ◌++◌, length, get_or, take, drop, vec_items, sym, refl, ap, ◌∙◌, mul-le-mul_right, arith, length-append}
 use Rattle.std.proofs.lemmas.List.{drop-drop, drop_at, drop-take, take-append-le, take_all, get_or-drop, get_or-take}
 use Rattle.flash.specs.declared.chunks.Chunk.{Chunk}
 use Rattle.flash.specs.declared.chunks.Chunk.TheVariants.{Blank, Damaged, Holds}
@@ -11,11 +11,10 @@ use Rattle.rules.specs.Lists.{first_where, next_if}
 use Rattle.rules.specs.Places.{Flash, load}
 use Rattle.rules.specs.Records.{is_blank}
 use Rattle.tags.specs.Bare.{bares}
-use Rattle.table.specs.Laws.{Mirrors}
 use Rattle.table.specs.Rows.{blocks_of}
 use Rattle.table.proofs.BareBlocks.{blocks-alike, table-mirrors}
 use Rattle.scan.specs.declared.indexes.Index.{Index}
-use Rattle.scan.specs.Flat.{flat, looks, looks_of}
+use Rattle.scan.specs.Flat.{flat, looks}
 use Rattle.scan.specs.Indexes.{looks_in}
 use Rattle.scan.proofs.Flat.{looks_long, looks-at}
 use Rattle.places.specs.Places.{Told, rows_of, is_blank_l}

@@ -1,7 +1,6 @@
 -- Places, from what the standings and the rows of a block tell. Assumes nothing.
-use Rattle.std.proofs.Common.{◌≡◌, ℕ, ◌<◌, ◌≤◌, Bool, true, false, cond, leb, List, Some, None, Option, sym, refl, ap, ◌∙◌}
+use Rattle.std.proofs.Common.{◌≡◌, ℕ, ◌<◌, ◌≤◌, Bool, true, false, cond, leb, Some, None, Option, sym, ap, ◌∙◌}
 use Rattle.std.proofs.lemmas.Bool.{lt-leb, le-leb}
-use Rattle.rules.specs.declared.standings.Standing.{Standing}
 use Rattle.rules.specs.declared.standings.Standing.TheVariants.{Blank as blank_s, Open as open_s}
 use Rattle.rules.specs.Lists.{count, first_where, or_else}
 use Rattle.rules.specs.Places.{Flash, is_blank_s, is_open_s, at_block, blank_in, start_of, open_place, blank_place, add_place, copy_place}

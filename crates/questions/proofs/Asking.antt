@@ -1,5 +1,5 @@
 -- The questions, from what their steps answered. Assumes nothing.
-use Rattle.std.proofs.Common.{◌≡◌, ℕ, ◌<◌, ◌≤◌, Bool, true, false, cond, not, ltb, List, [], ◌∷◌, length, Some, None, Ok, Err, Option, Result, unwrap_or, sym, refl, ap, ◌∙◌, subst}
+use Rattle.std.proofs.Common.{◌≡◌, ℕ, ◌<◌, ◌≤◌, Bool, true, false, not, ltb, List, [], ◌∷◌, length, Some, None, Option, Result, unwrap_or, sym, refl, ap, ◌∙◌, subst}
 use Rattle.std.proofs.lemmas.Bool.{both_ways, cond-true, cond-false, not_from_true, not_from_false, and_from, le-leb, lt-ltb, le-ltb}
 use Rattle.std.specs.Option.{option_map}
 use Rattle.flash.specs.Faults.{Told}
@@ -10,9 +10,8 @@ use Rattle.rules.specs.Refusals.{Store, Table, first_of, recs, no_object, size_t
 use Rattle.rules.proofs.Filed.{present-file, some_is, some-none}
 use Rattle.names.specs.Names.{name_at, name_if, Mirrors}
 use Rattle.scan.specs.declared.refusals.Refusal.{Refusal}
-use Rattle.scan.specs.declared.refusals.Refusal.TheVariants.{BadObject, NotPresent}
 use Rattle.questions.specs.Lists.{narrowed, size_answer}
-use Rattle.questions.specs.Questions.{Answered, OfFile, SizeAnswered}
+use Rattle.questions.specs.Questions.{OfFile, SizeAnswered}
 
 -- the first row of a table fits, or the next ones count
 pub fits-first : (k : ℕ) (b : Bool) (more : Table) → b ≡ true → first_of ((k, b) ∷ more) ≡ k

@@ -1,7 +1,5 @@
 -- What the table tells of the use of chunks and of serials. Assumes nothing.
-use Rattle.std.proofs.Common.{◌≡◌, ℕ, ◌-◌, ◌*◌, List, map, sym, refl, ap, ◌∙◌}
-use Rattle.flash.specs.declared.chunks.Look.{Look}
-use Rattle.flash.specs.declared.chunks.Record.{Record}
+use Rattle.std.proofs.Common.{◌≡◌, ℕ, ◌-◌, ◌*◌, sym, ap, ◌∙◌}
 use Rattle.flash.specs.Blocks.{standing}
 use Rattle.flash.specs.Model.{State, blocks_of, view_of}
 use Rattle.rules.specs.Lists.{largest}

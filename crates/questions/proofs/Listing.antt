@@ -1,5 +1,5 @@
 -- Rows laid one after the other into the caller's, by rising object number. Assumes nothing.
-use Rattle.std.proofs.Common.{◌≡◌, ℕ, zero, suc, ◌+◌, ◌-◌, ◌<◌, ◌≤◌, Bool, true, false, cond, List, [], ◌∷◌, ◌++◌, length, take, drop, set, Some, None, Option, sym, refl, ap, ◌∙◌, subst, add-zero, add-one, arith, length-append}
+use Rattle.std.proofs.Common.{◌≡◌, ℕ, suc, ◌+◌, ◌-◌, ◌<◌, ◌≤◌, Bool, cond, List, [], ◌∷◌, ◌++◌, length, take, drop, set, Some, None, Option, sym, refl, ap, ◌∙◌, add-zero, add-one, arith, length-append}
 use Rattle.std.proofs.lemmas.List.{take_more_set, append_assoc, append-nil, drop-set-lt, drop-drop, take-append-drop}
 use Rattle.std.specs.Option.{option_map}
 use Rattle.flash.specs.declared.chunks.Record.{Record}

@@ -1,5 +1,5 @@
 -- What there is on a chip, counted. Assumes nothing.
-use Rattle.std.specs.Prelude.{◌≡◌, ℕ, List, length}
+use Rattle.std.specs.Prelude.{◌≡◌, List, length}
 use Rattle.flash.specs.Blocks.{standing}
 use Rattle.flash.specs.Model.{State, blocks_of}
 use Rattle.rules.specs.declared.standings.Standing.{Standing}

@@ -1,21 +1,15 @@
 -- Mount, from what its steps answered. Assumes nothing.
-use Rattle.std.proofs.Common.{◌≡◌, ℕ, zero, suc, ◌+◌, ◌*◌, ◌≤◌, Bool, true, false, leb, List, [], ◌∷◌, ◌++◌, map, length, take, Some, None, Ok, Err, vec_items, Option, Result, sym, refl, ap, ◌∙◌, subst, append_assoc, arith}
+use Rattle.std.proofs.Common.{◌≡◌, ℕ, zero, suc, ◌*◌, ◌≤◌, true, leb, List, [], ◌∷◌, ◌++◌, map, length, take, Ok, vec_items, sym, refl, ap, ◌∙◌, subst, append_assoc, arith}
 use Rattle.std.proofs.lemmas.Bool.{and_parts, leb-true}
-use Rattle.flash.specs.declared.chunks.Look.{Look}
-use Rattle.flash.specs.declared.chunks.Sizes.{Sizes}
-use Rattle.flash.specs.Blocks.{standing}
-use Rattle.flash.specs.Model.{State, View, started, blocks_of, view_of}
+use Rattle.flash.specs.Model.{State, started, blocks_of, view_of}
 use Rattle.flash.specs.Reads.{Sized}
-use Rattle.rules.specs.declared.standings.Standing.{Standing}
 use Rattle.rules.specs.Lists.{within}
-use Rattle.rules.specs.Mounting.{sizes_fit, verdict, mounted_block, Fault}
-use Rattle.scan.specs.declared.refusals.Refusal.{Refusal}
-use Rattle.scan.specs.Flat.{looks_of}
+use Rattle.rules.specs.Mounting.{sizes_fit, verdict, mounted_block}
 use Rattle.scan.specs.Tables.{TableOf}
 use Rattle.scan.specs.Standing.{StandTo}
 use Rattle.scan.specs.Indexes.{Knows, looks_in, stands_in, names_in}
 use Rattle.scan.specs.declared.indexes.Index.{Index}
-use Rattle.scan.specs.Mounts.{verdict_of, Examined}
+use Rattle.scan.specs.Mounts.{Examined}
 use Rattle.scan.proofs.Standings.{stand-all}
 
 take-front : {A : Type 0} (xs ys : List A) → take (length xs) (xs ++ ys) ≡ xs

@@ -1,44 +1,44 @@
 -- What mount's checks found, and its verdict. Assumes nothing.
-use Rattle.std.proofs.Common.{◌≡◌, ℕ, ◌+◌, ◌-◌, ◌*◌, ◌/◌, ◌%◌, ◌<◌, ◌≤◌, Bool, true, false, cond, not, ◌&&◌, eqb, ltb, ◌⊎◌, List, [], ◌∷◌, map, length, get_or, Some, None, Ok, Err, Decides, Option, Result, sym, refl, ap, ◌∙◌, subst, inl, inr, arith}
-use Rattle.std.proofs.lemmas.Bool.{both_ways, cases_Bool, cases_eq, and_parts, and_from, not-true, not-false, not_from_false, not_from_true, eq-eqb, eqb-true, lt-ltb, le-ltb, le-leb, cond-true, cond-false}
+use Rattle.std.proofs.Common.{◌≡◌, ℕ, ◌+◌, ◌*◌, ◌/◌, ◌%◌, ◌<◌, ◌≤◌, Bool, true, false, not, ◌&&◌, eqb, ltb, ◌⊎◌, List, [], ◌∷◌, map, length, Some, None, Ok, Err, Decides, Option, sym, refl, ap, ◌∙◌, subst, inl, inr}
+use Rattle.std.proofs.lemmas.Bool.{both_ways, cases_Bool, and_parts, and_from, not_from_false, not_from_true, eq-eqb, eqb-true, lt-ltb, le-ltb, le-leb, cond-true, cond-false}
 use Rattle.flash.specs.declared.chunks.Chunk.{Chunk}
 use Rattle.flash.specs.declared.chunks.Chunk.TheVariants.{Blank, Damaged, Holds}
 use Rattle.flash.specs.declared.chunks.Look.{Look}
 use Rattle.flash.specs.declared.chunks.Place.{Place}
 use Rattle.flash.specs.declared.chunks.Record.{Record}
 use Rattle.flash.specs.declared.chunks.Sizes.{Sizes}
-use Rattle.flash.specs.Blocks.{records_of, standing, chunk_at}
+use Rattle.flash.specs.Blocks.{records_of, standing}
 use Rattle.flash.specs.Model.{State, blocks_of}
 use Rattle.flash.proofs.Views.{blocks-count, block-length, cell_at}
-use Rattle.rules.specs.Lists.{Among, within, or_else, is_there}
+use Rattle.rules.specs.Lists.{Among, within, or_else}
 use Rattle.rules.specs.declared.kinds.Kind.{Kind}
 use Rattle.rules.specs.declared.kinds.Kind.TheVariants.{Data as data_k, Header as header_k, CutHeader as cut_k, Marker as marker_k, Other as other_k}
 use Rattle.flash.specs.Chunks.{look_of}
 use Rattle.rules.specs.Records.{kind, is_data, is_header, object, first_byte, keeps_rules}
-use Rattle.rules.specs.Reading.{File, files, header, in_file, used, used_by, name_in}
+use Rattle.rules.specs.Reading.{File, files, in_file, used, used_by}
 use Rattle.rules.specs.Places.{load}
 use Rattle.rules.specs.Mounting.{sizes_fit, placed, first_placed, first_clash, two_named, limit, no_way_on, Fault, plain_if, placed_fault, verdict}
 use Rattle.rules.specs.Laws.{Unique}
 use Rattle.rules.proofs.Accepts.{way-from, way-to, unique-from, keeps-from, file-named}
 use Rattle.rules.proofs.Filed.{some_is, some-none, HeaderIn, filed-view, header-filed, header_of, header_at, file-at}
-use Rattle.rules.proofs.Counting.{used-by-files, object-in}
+use Rattle.rules.proofs.Counting.{used-by-files}
 use Rattle.rules.proofs.Checks.{header-rule}
-use Rattle.names.specs.Names.{name_at, name_from, name_if, Mirrors}
+use Rattle.names.specs.Names.{name_from, name_if, Mirrors}
 use Rattle.tags.specs.Bare.{bare, bares, records}
 use Rattle.table.specs.Rows.{blocks_of as table_blocks}
 use Rattle.table.specs.Laws.{bare_blocks}
 use Rattle.table.proofs.Alikes.{bare-reads-alike}
 use Rattle.table.proofs.BareBlocks.{table-mirrors, blocks-alike}
 use Rattle.scan.specs.declared.refusals.Refusal.{Refusal}
-use Rattle.scan.specs.declared.refusals.Refusal.TheVariants.{BadRecord, SerialClash, SameNames, FilesTooLarge, NoWayOn}
-use Rattle.scan.specs.Flat.{flat, looks_of}
-use Rattle.scan.specs.Tables.{TableOf, row_of}
+use Rattle.scan.specs.declared.refusals.Refusal.TheVariants.{SerialClash, SameNames, FilesTooLarge, NoWayOn}
+use Rattle.scan.specs.Flat.{flat}
+use Rattle.scan.specs.Tables.{TableOf}
 use Rattle.scan.specs.Scans.{AllWhole}
 use Rattle.scan.specs.Clashes.{clash_place}
-use Rattle.scan.specs.Checks.{filed_by, note_of, noted, BrokenRule, FirstBroken, AllChecked}
+use Rattle.scan.specs.Checks.{filed_by, note_of, noted, FirstBroken, AllChecked}
 use Rattle.scan.specs.Mounts.{whole_all}
-use Rattle.scan.specs.Mounts.{verdict_of, fault_of, Accepted, Examined, Idle}
-use Rattle.scan.proofs.Flat.{standing-flat, flat-long, flat-cell}
+use Rattle.scan.specs.Mounts.{verdict_of, Idle}
+use Rattle.scan.proofs.Flat.{standing-flat, flat-cell}
 use Rattle.scan.proofs.Telling.{rows_long, row-tells}
 use Rattle.scan.proofs.Placed.{first-placed-none, first-placed-some}
 use Rattle.scan.proofs.Recorded.{table-records, stands-whole}

@@ -1,6 +1,5 @@
 -- Chunks in rising place: chunk c of block b of p chunks is at b × p + c. Assumes nothing.
-use Rattle.std.proofs.Common.{◌≡◌, ℕ, zero, suc, ◌+◌, ◌*◌, ◌/◌, ◌%◌, ◌<◌, ◌≤◌, List, [], ◌∷◌, ◌++◌, length, get_or, sym, refl, ap, ◌∙◌, subst, append_assoc, arith, length-append}
-use lib.Arith.{digits_lt, digits_div, digits_mod}
+use Rattle.std.proofs.Common.{◌≡◌, ℕ, zero, suc, ◌+◌, ◌*◌, ◌/◌, ◌%◌, ◌<◌, List, [], ◌∷◌, ◌++◌, length, get_or, sym, refl, ap, ◌∙◌, arith, length-append}
 use Rattle.std.proofs.lemmas.List.{ext_get_or}
 use Rattle.flash.specs.declared.chunks.Record.{Record}
 use Rattle.flash.specs.declared.chunks.Chunk.{Chunk}
@@ -9,7 +8,7 @@ use Rattle.flash.specs.declared.chunks.Look.{Look}
 use Rattle.flash.specs.declared.chunks.Look.TheVariants.{Blank as BlankL}
 use Rattle.flash.specs.Chunks.{look_of}
 use Rattle.flash.specs.Model.{State, tab, blocks_of}
-use Rattle.flash.specs.Blocks.{cons_record, records_of, standing}
+use Rattle.flash.specs.Blocks.{records_of, standing}
 use Rattle.flash.proofs.Views.{length-tab, tab-at}
 use Rattle.scan.specs.Flat.{flat, looks, looks_of}
 use Rattle.scan.proofs.Rows.{row_block, row-chunk, row_is}

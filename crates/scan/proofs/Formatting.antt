@@ -1,11 +1,11 @@
 -- Format, from what restart, sizes and the erases answered. Assumes nothing.
-use Rattle.std.proofs.Common.{◌≡◌, ℕ, Bool, true, Ok, Err, Result, sym, ap, ◌∙◌, subst}
+use Rattle.std.proofs.Common.{◌≡◌, ℕ, Bool, true, Ok, Err, sym, ap, ◌∙◌, subst}
 use Rattle.flash.specs.declared.chunks.Sizes.{Sizes}
 use Rattle.flash.specs.declared.faults.Fault.{Fault}
 use Rattle.flash.specs.Model.{State, started}
 use Rattle.flash.specs.Reads.{Sized}
 use Rattle.rules.specs.Mounting.{sizes_fit}
-use Rattle.scan.specs.declared.refusals.Refusal.TheVariants.{Chip, BadSizes}
+use Rattle.scan.specs.declared.refusals.Refusal.TheVariants.{Chip}
 use Rattle.scan.specs.Formats.{ErasedAll, Formatted}
 
 -- the sizes that a restarted chip tells are its own

@@ -1,7 +1,7 @@
 -- One row checked, and all rows. Assumes nothing.
-use Rattle.std.proofs.Common.{◌≡◌, ℕ, ◌+◌, ◌*◌, ◌/◌, ◌%◌, ◌<◌, ◌≤◌, Bool, true, false, cond, not, ◌&&◌, ◌≢◌, ◌⊎◌, List, [], ◌∷◌, length, get_or, drop, Some, None, Ok, Err, Option, sym, refl, ap, ◌∙◌, subst, inl, inr, ⊎_elim, arith}
+use Rattle.std.proofs.Common.{◌≡◌, ℕ, ◌+◌, ◌*◌, ◌/◌, ◌%◌, ◌<◌, ◌≤◌, Bool, true, false, ◌≢◌, List, [], ◌∷◌, length, get_or, drop, Ok, Option, sym, refl, ap, ◌∙◌, ⊎_elim, arith}
 use Rattle.std.proofs.lemmas.List.{at_drop_more, at_drop_all}
-use Rattle.std.proofs.lemmas.Bool.{cases_eq, both_ways}
+use Rattle.std.proofs.lemmas.Bool.{cases_eq}
 use Rattle.flash.specs.declared.chunks.Chunk.{Chunk}
 use Rattle.flash.specs.declared.chunks.Chunk.TheVariants.{Blank, Damaged, Holds}
 use Rattle.flash.specs.declared.chunks.Look.{Look}
@@ -18,7 +18,7 @@ use Rattle.names.specs.Names.{name_at}
 use Rattle.scan.specs.declared.refusals.Refusal.TheVariants.{BadRecord}
 use Rattle.scan.specs.Flat.{flat}
 use Rattle.scan.specs.Tables.{TableOf, row_of}
-use Rattle.scan.specs.Checks.{filed_by, note_of, noted, FirstByte, first_if, BrokenRule, RowChecked, KeepTo}
+use Rattle.scan.specs.Checks.{filed_by, note_of, noted, FirstByte, BrokenRule, RowChecked, KeepTo}
 use Rattle.scan.proofs.Rows.{row_block, row-chunk}
 use Rattle.scan.proofs.Flat.{flat-long}
 use Rattle.scan.proofs.Telling.{rows_long, row-tells, row_in, place-holds}

@@ -1,21 +1,21 @@
 -- One more block mounted, and all of them. Assumes nothing.
-use Rattle.std.proofs.Common.{◌≡◌, ℕ, zero, suc, ◌+◌, ◌*◌, ◌<◌, ◌≤◌, Bool, true, false, cond, ◌&&◌, ◌≢◌, ◌⊎◌, List, [], ◌∷◌, map, length, get_or, take, set, MatchBool, sym, refl, ap, ◌∙◌, subst, inl, inr, ⊎_elim, arith, length-take}
+use Rattle.std.proofs.Common.{◌≡◌, ℕ, zero, suc, ◌+◌, ◌*◌, ◌<◌, ◌≤◌, Bool, true, false, cond, ◌≢◌, List, [], ◌∷◌, map, length, get_or, take, set, MatchBool, sym, refl, ap, ◌∙◌, inl, inr, ⊎_elim, arith, length-take}
 use Rattle.std.proofs.lemmas.List.{ext_get_or, get_or-set_same, get_or-set_other}
 use Rattle.std.proofs.lemmas.Bool.{cases_eq, both_ways, cases_Bool, and_from, and_parts}
 use Rattle.flash.specs.declared.chunks.Chunk.{Chunk}
 use Rattle.flash.specs.declared.chunks.Chunk.TheVariants.{Blank, Damaged, Holds}
 use Rattle.flash.specs.declared.chunks.Look.{Look}
-use Rattle.flash.specs.declared.chunks.Look.TheVariants.{Blank as BlankL, Damaged as DamagedL, Record as RecordL}
+use Rattle.flash.specs.declared.chunks.Look.TheVariants.{Blank as BlankL}
 use Rattle.flash.specs.declared.chunks.Sizes.{Sizes}
 use Rattle.flash.specs.Chunks.{look_of}
 use Rattle.flash.specs.Model.{State, blocks_of}
 use Rattle.flash.proofs.Views.{blocks-count, block-length, cell_at}
 use Rattle.rules.specs.declared.standings.Standing.{Standing}
-use Rattle.rules.specs.declared.standings.Standing.TheVariants.{Blank as blank_s, Open as open_s, Closed as closed_s}
+use Rattle.rules.specs.declared.standings.Standing.TheVariants.{Blank as blank_s, Closed as closed_s}
 use Rattle.rules.specs.Records.{is_blank}
 use Rattle.rules.specs.Mounting.{blank_block, mounted_block}
 use Rattle.scan.specs.Standing.{BlankRows, StandTo}
-use Rattle.scan.specs.Tables.{TableOf, row_of}
+use Rattle.scan.specs.Tables.{TableOf}
 use Rattle.scan.proofs.Flat.{flat-cell}
 use Rattle.scan.proofs.Telling.{row-tells}
 

@@ -1,5 +1,5 @@
 -- A chip's chunks in rising place, and what a look tells of each. Assumes nothing.
-use Rattle.std.specs.Prelude.{ℕ, List, [], ◌∷◌, ◌++◌}
+use Rattle.std.specs.Prelude.{List, [], ◌∷◌, ◌++◌}
 use Rattle.flash.specs.declared.chunks.Chunk.{Chunk}
 use Rattle.flash.specs.declared.chunks.Look.{Look}
 use Rattle.flash.specs.Chunks.{look_of}

@@ -1,7 +1,6 @@
 -- What an index tells, and when it knows a chip. Assumes nothing.
-use Rattle.std.specs.Prelude.{◌≡◌, ℕ, ◌*◌, Bool, true, ◌&&◌, eqb, List, [], ◌∷◌, map, length, take, None, Ok, Err, vec_items, Result}
+use Rattle.std.specs.Prelude.{◌≡◌, ℕ, ◌*◌, true, List, map, take, None, Ok, Err, vec_items, Result}
 use Rattle.flash.specs.declared.chunks.Look.{Look}
-use Rattle.flash.specs.declared.chunks.Record.{Record}
 use Rattle.flash.specs.Blocks.{standing}
 use Rattle.flash.specs.Model.{State, View, view_of}
 use Rattle.rules.specs.declared.standings.Standing.{Standing}

@@ -1,11 +1,11 @@
 -- Mount: what it answers and leaves. Assumes nothing.
-use Rattle.std.specs.Prelude.{◌≡◌, ℕ, ◌*◌, ◌<◌, Bool, true, false, ◌&&◌, List, [], ◌∷◌, map, length, Some, None, Ok, Err, Decides, Option, Result, ◌==◌}
+use Rattle.std.specs.Prelude.{◌≡◌, ℕ, ◌*◌, ◌<◌, Bool, true, false, ◌&&◌, List, [], ◌∷◌, length, Some, None, Ok, Err, Decides, Option, Result, ◌==◌}
 use Rattle.flash.specs.declared.chunks.Sizes.{Sizes}
 use Rattle.tags.specs.Bare.{bares}
 use Rattle.table.specs.Rows.{blocks_of as table_blocks}
 use Rattle.flash.specs.declared.chunks.Look.{Look}
 use Rattle.flash.specs.declared.chunks.Record.{Record}
-use Rattle.flash.specs.Model.{State, started, blocks_of}
+use Rattle.flash.specs.Model.{State, blocks_of}
 use Rattle.flash.specs.Blocks.{standing}
 use Rattle.flash.specs.Faults.{Told}
 use Rattle.rules.specs.Reading.{files}

@@ -1,5 +1,5 @@
 -- What mount leaves, from what the scan left. Assumes nothing.
-use Rattle.std.proofs.Common.{◌≡◌, ℕ, List, map, take, vec_items, sym, ap, ◌∙◌}
+use Rattle.std.proofs.Common.{◌≡◌, ℕ, List, take, vec_items, sym, ap, ◌∙◌}
 use Rattle.flash.specs.declared.chunks.Chunk.{Chunk}
 use Rattle.flash.specs.Model.{State, started, blocks_of, view_of}
 use Rattle.rules.specs.declared.standings.Standing.{Standing}

@@ -1,6 +1,6 @@
 -- The test of a running store, and the facts that it tells. Assumes nothing.
-use Rattle.std.proofs.Common.{◌≡◌, ℕ, zero, suc, ◌+◌, ◌*◌, ◌≤◌, Bool, true, false, not, ◌&&◌, ◌||◌, eqb, ◌⊎◌, List, [], ◌∷◌, map, take, Some, None, vec_items, Option, sym, refl, ap, ◌∙◌, subst, inl, inr, arith}
-use Rattle.std.proofs.lemmas.Bool.{both_ways, and_parts, and_from, not-true, not-false, not_from_false, not_from_true, eqb-true, eq-eqb, cases_Bool, or_from}
+use Rattle.std.proofs.Common.{◌≡◌, ℕ, zero, suc, ◌+◌, ◌*◌, ◌≤◌, Bool, true, false, not, eqb, List, [], ◌∷◌, map, take, Some, None, vec_items, Option, sym, refl, ap, ◌∙◌, inl, inr, arith}
+use Rattle.std.proofs.lemmas.Bool.{both_ways, and_parts, and_from, not-true, not_from_false, not_from_true, eqb-true, eq-eqb, cases_Bool, or_from}
 use Rattle.flash.specs.declared.chunks.Tag.{Tag}
 use Rattle.flash.specs.declared.chunks.Look.{Look}
 use Rattle.flash.specs.declared.chunks.Sizes.{Sizes}
@@ -12,7 +12,7 @@ use Rattle.rules.specs.declared.standings.Standing.TheVariants.{Blank as blank_s
 use Rattle.rules.specs.Lists.{is_there, same_bytes}
 use Rattle.rules.specs.Reading.{Files, files, any_up, any_object}
 use Rattle.rules.specs.Mounting.{sizes_fit, mounted_block, verdict, Fault}
-use Rattle.rules.proofs.Objects.{object-true, object-false, object-none}
+use Rattle.rules.proofs.Objects.{object-false}
 use Rattle.names.specs.Names.{name_at, name_if, bytes_of, Mirrors}
 use Rattle.scan.specs.declared.indexes.Index.{Index}
 use Rattle.scan.specs.Flat.{looks_of}

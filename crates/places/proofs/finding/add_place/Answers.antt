@@ -1,7 +1,7 @@
 use Rattle.std.proofs.Common.{ap, ◌∙◌}
 use Rattle.rules.specs.declared.standings.Standing.TheVariants.{Blank as blank_s}
 use Rattle.rules.specs.Lists.{count}
-use Rattle.places.specs.Places.{stands_as, place_told}
+use Rattle.places.specs.Places.{stands_as}
 use Rattle.places.proofs.Spots.{add_open, add-few, add-blank}
 use Rattle.places.proofs.finding.add_place.Goals as goal
 

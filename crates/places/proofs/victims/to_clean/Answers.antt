@@ -5,7 +5,6 @@ use Rattle.rules.specs.declared.standings.Standing.TheVariants.{Blank as blank_s
 use Rattle.rules.specs.Places.{load, least, to_clean}
 use Rattle.tags.specs.Bare.{bares}
 use Rattle.table.specs.Rows.{blocks_of}
-use Rattle.scan.specs.Indexes.{looks_in, stands_in}
 use Rattle.places.specs.Places.{victim_told}
 use Rattle.places.specs.declared.victims.Victim.{Victim}
 use Rattle.places.proofs.Cutting.{load-known}

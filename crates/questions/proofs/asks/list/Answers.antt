@@ -1,4 +1,4 @@
-use Rattle.std.proofs.Common.{◌≡◌, ℕ, ◌<◌, ◌≤◌, List, ◌++◌, length, drop, refl, ap, ◌∙◌, subst}
+use Rattle.std.proofs.Common.{ℕ, ◌<◌, ◌≤◌, List, ◌++◌, length, drop, refl, ap, ◌∙◌, subst}
 use Rattle.flash.specs.declared.chunks.Look.{Look}
 use Rattle.rules.specs.declared.rows.Row.{Row}
 use Rattle.rules.specs.Calls.{objects}

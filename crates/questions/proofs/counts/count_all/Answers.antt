@@ -1,6 +1,5 @@
 use Rattle.std.proofs.Common.{List, length, ap, ◌∙◌}
 use Rattle.flash.specs.declared.chunks.Look.{Look}
-use Rattle.rules.specs.declared.standings.Standing.{Standing}
 use Rattle.rules.specs.Calls.{objects}
 use Rattle.rules.specs.Lists.{count, largest}
 use Rattle.rules.specs.Places.{is_blank_s}

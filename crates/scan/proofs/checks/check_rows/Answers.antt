@@ -1,7 +1,7 @@
-use Rattle.std.proofs.Common.{◌≡◌, ℕ, ◌*◌, List, None, Option, ap, ◌∙◌, arith}
+use Rattle.std.proofs.Common.{ℕ, List, None, Option, ap, arith}
 use Rattle.std.proofs.lemmas.Result.{err_from_is_err_and}
 use Rattle.flash.specs.Model.{blocks_of}
-use Rattle.names.specs.Names.{name_at, bytes_of}
+use Rattle.names.specs.Names.{bytes_of}
 use Rattle.scan.specs.Flat.{flat}
 use Rattle.scan.specs.Checks.{filed_by, noted}
 use Rattle.scan.proofs.Telling.{rows_long}

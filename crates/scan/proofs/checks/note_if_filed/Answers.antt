@@ -1,4 +1,3 @@
-use Rattle.std.proofs.Common.{◌∙◌}
 use Rattle.names.specs.Names.{bytes_of}
 use Rattle.scan.proofs.Noting.{noted_in, noted-out}
 use Rattle.scan.proofs.checks.note_if_filed.Goals as goal

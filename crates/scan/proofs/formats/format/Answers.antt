@@ -1,4 +1,4 @@
-use Rattle.std.proofs.Common.{true, false, sym, refl}
+use Rattle.std.proofs.Common.{false, sym}
 use Rattle.std.proofs.lemmas.Result.{err_from_is_err_and}
 use Rattle.scan.proofs.Formatting.{fit-as, format-refused, format-done}
 use Rattle.scan.proofs.formats.format.Goals as goal

@@ -1,8 +1,5 @@
-use Rattle.std.proofs.Common.{◌≡◌, ℕ, ◌*◌, ◌/◌, ◌%◌, ◌<◌, length, Result, sym, ap, ◌∙◌, subst, arith}
-use Rattle.flash.specs.declared.chunks.Look.{Look}
-use Rattle.flash.specs.declared.faults.Fault.{Fault}
-use Rattle.flash.specs.Reads.{Looked}
-use Rattle.scan.proofs.Looking.{scanned-more, scanned-all, not-refused}
+use Rattle.std.proofs.Common.{◌≡◌, ℕ, ◌*◌, ◌/◌, ◌%◌, length, ap, ◌∙◌, arith}
+use Rattle.scan.proofs.Looking.{scanned-more, scanned-all}
 use Rattle.scan.proofs.scans.scan.Goals as goal
 
 pub loop-i-preserved : goal.loop-i-preserved

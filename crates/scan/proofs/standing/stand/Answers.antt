@@ -1,5 +1,4 @@
-use Rattle.std.proofs.Common.{◌≡◌, ℕ, ◌+◌, ◌*◌, ◌<◌, ◌≤◌, length, set, vec_items, vec_len, sym, refl, ap, ◌∙◌, subst, mul-le-mul_right, arith}
-use lib.Arith.{digits_lt}
+use Rattle.std.proofs.Common.{ℕ, ◌+◌, ◌*◌, ◌<◌, ◌≤◌, length, set, vec_items, sym, refl, subst, mul-le-mul_right, arith}
 use Rattle.rules.specs.declared.standings.Standing.{Standing}
 use Rattle.scan.specs.Standing.{StandTo}
 use Rattle.scan.proofs.Standings.{stand-more}

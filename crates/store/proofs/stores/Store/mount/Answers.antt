@@ -1,4 +1,4 @@
-use Rattle.std.proofs.Common.{◌≡◌, false, vec_items, sym, refl, ◌∙◌, subst}
+use Rattle.std.proofs.Common.{false, vec_items, sym, refl, subst}
 use Rattle.std.proofs.lemmas.Result.{err_from_is_err_and}
 use Rattle.std.proofs.lemmas.Bool.{both_ways}
 use Rattle.flash.specs.Coding.{told}
