@@ -7,7 +7,7 @@ use std::alloc::AllocError;
 use std::fmt;
 
 // Why a command gives nothing.
-#[derive(Clone, Copy, Debug)]
+#[derive(Clone, Copy, PartialEq, Eq, Debug)]
 pub enum Stop {
     Memory,
     Refused(Misfit),

@@ -38,17 +38,27 @@ SizesBy n p (Err (Operands m)) = ⊥
 SizesBy n p (Err (NotANumber w)) = ((w.now ≡ n) × (number_of n ≡ None)) ⊎ ((w.now ≡ p) × (number_of n ≢ None) × (number_of p ≡ None))
 SizesBy n p (Err Sizes) = (a b : ℕ) × (number_of n ≡ Some a) × (number_of p ≡ Some b) × (mountable a b ≡ false)
 
--- the sizes that follow the file's name after `new`
-abbrev pub Sized : List (List ℕ) → Result (ℕ × ℕ) Misuse → Type 0
-Sized ws r = Calls ws NewN × SizesBy (word_at ws 2) (word_at ws 3) r
+-- the operands of `new`: a file, and the numbers of blocks and chunks of a chip that a store can mount
+abbrev pub CreatesBy : List ℕ → List ℕ → List ℕ → Result Command Misuse → Type 0
+CreatesBy f n p (Ok Help) = ⊥
+CreatesBy f n p (Ok Demo) = ⊥
+CreatesBy f n p (Ok (New g a b)) = (g.now ≡ f) × (number_of n ≡ Some a) × (number_of p ≡ Some b) × (mountable a b ≡ true)
+CreatesBy f n p (Ok (Dump g)) = ⊥
+CreatesBy f n p (Err (Unknown w)) = ⊥
+CreatesBy f n p (Err (Operands m)) = ⊥
+CreatesBy f n p (Err (NotANumber w)) = ((w.now ≡ n) × (number_of n ≡ None)) ⊎ ((w.now ≡ p) × (number_of n ≢ None) × (number_of p ≡ None))
+CreatesBy f n p (Err Sizes) = (a b : ℕ) × (number_of n ≡ Some a) × (number_of p ≡ Some b) × (mountable a b ≡ false)
+
+abbrev pub Creates : List (List ℕ) → Result Command Misuse → Type 0
+Creates ws r = Calls ws NewN × CreatesBy (word_at ws 1) (word_at ws 2) (word_at ws 3) r
 
 -- no words ask for help
 abbrev pub Parsed : List (List ℕ) → Result Command Misuse → Type 0
 Parsed ws (Ok Help) = (length ws ≡ 0) ⊎ Calls ws HelpN
 Parsed ws (Ok Demo) = Calls ws DemoN
-Parsed ws (Ok (New f n p)) = Sized ws (Ok (n, p)) × (f.now ≡ word_at ws 1)
+Parsed ws (Ok (New f n p)) = Creates ws (Ok (New f n p))
 Parsed ws (Ok (Dump f)) = Calls ws DumpN × (f.now ≡ word_at ws 1)
 Parsed ws (Err (Unknown w)) = Called ws (Err (Unknown w))
 Parsed ws (Err (Operands n)) = Called ws (Err (Operands n))
-Parsed ws (Err (NotANumber w)) = Sized ws (Err (NotANumber w))
-Parsed ws (Err Sizes) = Sized ws (Err Sizes)
+Parsed ws (Err (NotANumber w)) = Creates ws (Err (NotANumber w))
+Parsed ws (Err Sizes) = Creates ws (Err Sizes)

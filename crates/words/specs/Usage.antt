@@ -1,6 +1,5 @@
 -- What the commands are for, and what is said of words that are none, as bytes of text. Assumes nothing.
-use Rattle.std.specs.Prelude.{ℕ, List, [], ◌∷◌, ◌++◌, codes}
-use Rattle.std.specs.List.{flat_map}
+use Rattle.std.specs.Prelude.{ℕ, List, ◌++◌, codes}
 use Rattle.words.specs.declared.names.Name.{Name}
 use Rattle.words.specs.declared.names.Name.TheVariants.{Help, Demo, New, Dump}
 use Rattle.words.specs.declared.parsing.Misuse.{Misuse}
@@ -22,9 +21,8 @@ purpose_text Dump = codes "prints what each chunk of the chip in an image file i
 abbrev pub usage_of : Name → List ℕ
 usage_of n = synopsis_text n ++ (codes "\n    " ++ (purpose_text n ++ codes "\n"))
 
--- every name, in the order of the help
 abbrev pub usage_text : List ℕ
-usage_text = flat_map usage_of (Demo ∷ (New ∷ (Dump ∷ (Help ∷ []))))
+usage_text = usage_of Demo ++ (usage_of New ++ (usage_of Dump ++ usage_of Help))
 
 -- refusal 9: a chip that no store can mount
 abbrev pub sizes_text : List ℕ

@@ -5,7 +5,7 @@ use crate::names::Name;
 use crate::numbers::{is_mountable, number};
 
 // A command with its operands.
-#[derive(Clone, Copy)]
+#[derive(Clone, Copy, PartialEq, Eq, Debug)]
 pub enum Command<'a> {
     Help,
     Demo,
@@ -20,7 +20,7 @@ pub enum Command<'a> {
 }
 
 // Why words are no command.
-#[derive(Clone, Copy)]
+#[derive(Clone, Copy, PartialEq, Eq, Debug)]
 pub enum Misuse<'a> {
     Unknown(&'a str),
     Operands(Name),
