@@ -56,14 +56,22 @@ fn reads(
     count: usize,
 ) -> Result<(), Fail> {
     let mut buffer = vec![in heap; 0xEEu8; long]?;
-    assert_eq!(rt; store.read(object, position, &mut buffer)?, count, "{object} from {position}, {long} bytes");
+    assert_eq!(rt;
+        store.read(object, position, &mut buffer)?,
+        count,
+        "{object} from {position}, {long} bytes"
+    );
     for (i, byte) in buffer.iter().enumerate() {
         let expected = if i < count {
             content(object, position.saturating_add(i as u64))
         } else {
             0xEE
         };
-        assert_eq!(rt; *byte, expected, "{object} from {position}, {long} bytes: byte {i}");
+        assert_eq!(rt;
+            *byte,
+            expected,
+            "{object} from {position}, {long} bytes: byte {i}"
+        );
     }
     Ok(())
 }
