@@ -23,7 +23,7 @@ WORDS = ["first-records", "cut-away", "marker-stays", "block-loaded", "failed-er
          "copy-keeps-serial", "room-by-files", "call-done", "deed-done"]
 # Where two names would fall together, or where a name cites a word that has another name now.
 OTHERS = {
-    "allCome": "each_comes", "openIs": "open_has_room", "chunk_back": "chunk_back_lem", "block_back": "block_back_lem",
+    "allCome": "each_comes", "open_is": "open_is_lem", "chunk_back": "chunk_back_lem", "block_back": "block_back_lem",
     "rows_in": "rows_in_lem", "getD-left": "get_or-left", "getD-right": "get_or-right", "getD-bares": "get_or-bares",
 }
 # The same in single files, where the name means something else elsewhere.

@@ -9,8 +9,8 @@ use std::marker::PhantomData;
 
 // A witness that the chip `of` has the sizes, the power and the contents that `coded` tells. It takes no bytes.
 //
-// The invariant of a generic struct cannot name its chip's model, since a ghost field knows nothing of a
-// bound. So a store keeps a `Tie` beside its chip, says in an ordinary ghost field that `of` is that chip, and
+// When this was built, the invariant of a generic struct could not name its chip's model, since a ghost field knew
+// nothing of a bound. So a store keeps a `Tie` beside its chip, says in an ordinary ghost field that `of` is that chip, and
 // speaks of `told coded` in the place of the model. After each call that writes the chip it makes a new one by
 // `new`, and where it needs the fact itself it calls `tell`.
 //

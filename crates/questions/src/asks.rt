@@ -45,6 +45,7 @@ pub fn size(index: &Index, object: u32) -> Result<u32, Refusal>
 
 // Reads the bytes of a file from a position on, as many as the buffer holds or the size allows, and answers their
 // number. The bytes of the buffer beyond them stay.
+#[tactic(auto, using(crate::proofs::Knowing::readable))]
 pub fn read<C: Chip>(
     index: &Index,
     chip: &C,

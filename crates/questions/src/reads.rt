@@ -1,10 +1,10 @@
 ghost use Rattle.std.specs.Prelude.{◌≡◌, ◌-◌, ◌*◌, ◌/◌, ◌%◌, ◌<◌, ◌≤◌, min, true, length, IfOk, Some};
 ghost use Rattle.flash.specs.Blocks.{standing};
-ghost use Rattle.flash.specs.Model.{blocks_of, view_of};
+ghost use Rattle.flash.specs.Model.{blocks_of};
 ghost use Rattle.flash.specs.Reads.{Sized};
 ghost use Rattle.rules.specs.Reading.{File, files};
-ghost use Rattle.scan.specs.Indexes.{Knows};
-ghost use Rattle.questions.specs.Reads.{HasRow, Stands, counted_at, ChunkRead, HasSize, ReadFrom};
+ghost use Rattle.scan.specs.Indexes.{looks_in};
+ghost use Rattle.questions.specs.Reads.{HasRow, Stands, counted_at, ChunkRead, Readable, HasSize, ReadFrom};
 
 use flash::{Chip, Fault, Place};
 use reading::chunk;
@@ -64,7 +64,7 @@ pub(crate) fn read_from<C: Chip>(
     position: u64,
     buffer: &mut [u8],
 ) -> Result<usize, Fault>
-    ensures { (f : File) → Knows (view_of (C.Chip.model chip.now)) index.now → HasSize (C.Chip.model chip.now) object size → files (standing (blocks_of (C.Chip.model chip.now))) object ≡ Some f → ReadFrom f position buffer.old result buffer.new }
+    ensures { (f : File) → Readable (C.Chip.model chip.now) index.now.sizes (looks_in index.now) → HasSize (C.Chip.model chip.now) object size → files (standing (blocks_of (C.Chip.model chip.now))) object ≡ Some f → ReadFrom f position buffer.old result buffer.new }
 {
     let rows = index.looks();
     let count = buffer

@@ -186,19 +186,19 @@ module _ (p : ℕ) (s : Flash) (ok : Sound p s) (b c : ℕ) (r : Record) (inside
       | inl q ↦ absurd (not_blank (subst (λ (z : ℕ). get_or after.stand z closed_s ≡ blank_s) q e))
       | inr n ↦ other_block i n ∙ ok.blank_is i (sym (other_stand i closed_s n) ∙ e)
     ];
-    open_has_room = λ i e. elim (cases_eq i b) [
+    open_is = λ i e. elim (cases_eq i b) [
       | inl q ↦ subst (λ (z : ℕ). BlankTail (get_or after.blocks z []) × (1 ≤ count is_blank (get_or after.blocks z []))) (sym q)
           (subst (λ (z : List Chunk). BlankTail z × (1 ≤ count is_blank z)) (sym new_block) (at.tail r, open_left (subst (λ (z : ℕ). get_or after.stand z closed_s ≡ open_s) q e)))
-      | inr n ↦ subst (λ (z : List Chunk). BlankTail z × (1 ≤ count is_blank z)) (sym (other_block i n)) (ok.open_has_room i (sym (other_stand i closed_s n) ∙ e))
+      | inr n ↦ subst (λ (z : List Chunk). BlankTail z × (1 ≤ count is_blank z)) (sym (other_block i n)) (ok.open_is i (sym (other_stand i closed_s n) ∙ e))
     ];
     same_long = long_after;
   }
 
 -- standings
-pub open_is : (x : Standing) → is_open_s x ≡ true → x ≡ open_s
-open_is blank_s e = absurd (both_ways false refl e)
-open_is open_s e = refl
-open_is closed_s e = absurd (both_ways false refl e)
+pub open_is_lem : (x : Standing) → is_open_s x ≡ true → x ≡ open_s
+open_is_lem blank_s e = absurd (both_ways false refl e)
+open_is_lem open_s e = refl
+open_is_lem closed_s e = absurd (both_ways false refl e)
 
 pub blank-is : (x : Standing) → is_blank_s x ≡ true → x ≡ blank_s
 blank-is blank_s e = refl
@@ -250,16 +250,16 @@ module _ (p : ℕ) (s : Flash) (ok : Sound p s) (k : ℕ) (r : Record) where
 
   pub next_open : (b : ℕ) → first_where is_open_s s.stand ≡ Some b → RoomFor p s (suc k) → Next p s k r
   unfolding copy_place open_place
-  next_open b e room = go (first_where is_blank (get_or s.blocks b [])) refl (spot (get_or s.blocks b []) (ok.open_has_room b (o closed_s)).0)
+  next_open b e room = go (first_where is_blank (get_or s.blocks b [])) refl (spot (get_or s.blocks b []) (ok.open_is b (o closed_s)).0)
     where
       inside : b < length s.stand
       inside = (found_at is_open_s s.stand b e).0
 
       o : (d : Standing) → get_or s.stand b d ≡ open_s
-      o d = open_is _ ((found_at is_open_s s.stand b e).1 d)
+      o d = open_is_lem _ ((found_at is_open_s s.stand b e).1 d)
 
       go : (m : Option ℕ) → first_where is_blank (get_or s.blocks b []) ≡ m → SpotAt (get_or s.blocks b []) m → Next p s k r
-      go None f h = absurd (omega (arith, (ok.open_has_room b (o closed_s)).1))
+      go None f h = absurd (omega (arith, (ok.open_is b (o closed_s)).1))
       go (Some c) f h = record {
         b = b;
         c = c;
@@ -535,10 +535,10 @@ module _ (p : ℕ) (s : Flash) (v : ℕ) (ok : Sound p s) (cl : get_or s.stand v
 
   pub place_open : (b : ℕ) → first_where is_open_s s.stand ≡ Some b → is_there (add_place erased) ≡ true
   unfolding add_place open_place
-  place_open b e = go (first_where is_blank (get_or s.blocks b [])) refl (spot (get_or s.blocks b []) (ok.open_has_room b (o closed_s)).0)
+  place_open b e = go (first_where is_blank (get_or s.blocks b [])) refl (spot (get_or s.blocks b []) (ok.open_is b (o closed_s)).0)
     where
       o : (d : Standing) → get_or s.stand b d ≡ open_s
-      o d = open_is _ ((found_at is_open_s s.stand b e).1 d)
+      o d = open_is_lem _ ((found_at is_open_s s.stand b e).1 d)
 
       apart' : b ≡ v → ⊥
       apart' q = (let g : get_or s.stand b blank_s ≡ open_s = o blank_s in let h : get_or s.stand b blank_s ≡ closed_s = subst (λ (z : ℕ). get_or s.stand z blank_s ≡ closed_s) (sym q) cl in let z : ◌≡◌ {A = ℕ} 0 1 = cc in omega arith)
@@ -547,7 +547,7 @@ module _ (p : ℕ) (s : Flash) (v : ℕ) (ok : Sound p s) (cl : get_or s.stand v
       rest = cond (leb 2 (count is_blank_s erased.stand)) (blank_place erased) None
 
       go : (m : Option ℕ) → first_where is_blank (get_or s.blocks b []) ≡ m → SpotAt (get_or s.blocks b []) m → is_there (or_else (blank_in erased.blocks (first_where is_open_s erased.stand)) rest) ≡ true
-      go None f h = absurd (omega (arith, (ok.open_has_room b (o closed_s)).1))
+      go None f h = absurd (omega (arith, (ok.open_is b (o closed_s)).1))
       go (Some c) f h =
           ap (λ (m : Option ℕ). is_there (or_else (blank_in erased.blocks m) rest)) (open_same ∙ e)
           ∙ ap (λ (z : List Chunk). is_there (or_else (at_block b (first_where is_blank z)) rest)) (get_or-set_other s.blocks v b _ [] apart')

@@ -33,4 +33,4 @@ none_open (x ∷ bs) zero e = never (blank_block x) e
 none_open (x ∷ bs) (suc i) e = none_open bs i e
 
 pub mounted-sound : (p : ℕ) (bs : List (List Chunk)) → ((i : ℕ) → i < length bs → length (get_or bs i []) ≡ p) → Sound p (mounted bs)
-mounted-sound p bs h = record { blank_is = blank-at p bs h; open_has_room = λ i e. absurd (none_open bs i e); same_long = length-map bs mounted_block }
+mounted-sound p bs h = record { blank_is = blank-at p bs h; open_is = λ i e. absurd (none_open bs i e); same_long = length-map bs mounted_block }

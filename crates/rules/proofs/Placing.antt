@@ -17,7 +17,7 @@ use Rattle.rules.specs.declared.standings.Standing.{Standing}
 use Rattle.rules.specs.declared.standings.Standing.TheVariants.{Blank as blank_s, Open as open_s, Closed as closed_s}
 use Rattle.rules.proofs.Copies.{wanted_same}
 use Rattle.rules.proofs.Failing.{left-blank}
-use Rattle.rules.proofs.Cleaning.{Where, found, found_at, Spot, SpotAt, spot, open_is, blank-is, Copied, LeastAt, least_at, Next, next, done, erasable, closed_in, in_load, runs_append, first-blank, blanks-all, all_tail}
+use Rattle.rules.proofs.Cleaning.{Where, found, found_at, Spot, SpotAt, spot, open_is_lem, blank-is, Copied, LeastAt, least_at, Next, next, done, erasable, closed_in, in_load, runs_append, first-blank, blanks-all, all_tail}
 use Rattle.rules.proofs.Tidy.{Tidy, pair_is, Opened, open-place, none-opened, first-opened, tidy-copies, tidy-erase}
 use Rattle.rules.proofs.Keeping.{Good, Sized, sized, sized_set, sized-put, same-shrunk, good-shrunk, load-none, erase-shrunk, erase-good, Broke, copies-break}
 
@@ -244,9 +244,9 @@ module _ (w n p : ℕ) (s : Flash) (g : Good w n p s.blocks) (lv : Live p s) (v 
       | inl q ↦ ap (λ (z : ℕ). get_or end.blocks z []) q ∙ new_block
       | inr q ↦ get_or-set_other copied'.blocks v i (all_blank (get_or copied'.blocks v [])) [] q ∙ dn.sound.blank_is i (sym (get_or-set_other copied'.stand v i blank_s closed_s q) ∙ e)
     ];
-    open_has_room = λ i e. elim (cases_eq i v) [
+    open_is = λ i e. elim (cases_eq i v) [
       | inl q ↦ absurd (blank-open (sym (new_stand closed_s) ∙ subst (λ (z : ℕ). get_or end.stand z closed_s ≡ open_s) q e))
-      | inr q ↦ subst (λ (z : List Chunk). Rattle.rules.specs.Safety.BlankTail z × (1 ≤ count is_blank z)) (sym (get_or-set_other copied'.blocks v i (all_blank (get_or copied'.blocks v [])) [] q)) (dn.sound.open_has_room i (sym (get_or-set_other copied'.stand v i blank_s closed_s q) ∙ e))
+      | inr q ↦ subst (λ (z : List Chunk). Rattle.rules.specs.Safety.BlankTail z × (1 ≤ count is_blank z)) (sym (get_or-set_other copied'.blocks v i (all_blank (get_or copied'.blocks v [])) [] q)) (dn.sound.open_is i (sym (get_or-set_other copied'.stand v i blank_s closed_s q) ∙ e))
     ];
     same_long = length-set copied'.stand v blank_s ∙ dn.sound.same_long ∙ sym (length-set copied'.blocks v _);
   }
@@ -388,7 +388,7 @@ place_is p s lv one b c e = go (open_place s) (open-place p s lv.sound) e
           at = h.1;
           only = first-opened p s lv.tidy q.0 h.0;
           other = sp.0;
-          apart = λ x. blank-open (sym (blank-is _ (fb.1 blank_s)) ∙ ap (λ (k : ℕ). get_or s.stand k blank_s) x ∙ open_is _ (fa.1 blank_s));
+          apart = λ x. blank-open (sym (blank-is _ (fb.1 blank_s)) ∙ ap (λ (k : ℕ). get_or s.stand k blank_s) x ∙ open_is_lem _ (fa.1 blank_s));
           other_in = fb.0;
           other_blank = λ y. blank-is _ (fb.1 y);
         })

@@ -16,7 +16,7 @@ use Rattle.rules.specs.declared.standings.Standing.{Standing}
 use Rattle.rules.specs.declared.standings.Standing.TheVariants.{Blank as blank_s, Open as open_s, Closed as closed_s}
 use Rattle.rules.proofs.Lists.{any-from, any_false, any_none, largest-most}
 use Rattle.rules.proofs.Shrinking.{shrunk-files}
-use Rattle.rules.proofs.Cleaning.{found_at, open_is}
+use Rattle.rules.proofs.Cleaning.{found_at, open_is_lem}
 use Rattle.rules.proofs.Mounts.{mounted-sound, none_open}
 use Rattle.rules.proofs.Filed.{present-file}
 use Rattle.rules.proofs.Tidy.{tidy-mounted}
@@ -300,7 +300,7 @@ module _ (w : ℕ) (big : 2048 ≤ w) (s : Store) (inv : Inv w s) where
       live = λ r. record {
         sound = mounted-sound s.p s.flash.blocks (λ i l. inv.good.shape.chunks i (let a = inv.good.shape.blocks' in omega arith));
         tidy = tidy-mounted s.p s.flash.blocks;
-        spare = λ b q. absurd (none_open s.flash.blocks b (open_is _ ((found_at is_open_s (map mounted_block s.flash.blocks) b q).1 closed_s)));
+        spare = λ b q. absurd (none_open s.flash.blocks b (open_is_lem _ ((found_at is_open_s (map mounted_block s.flash.blocks) b q).1 closed_s)));
       };
       held = λ r o q. absurd (both_ways false refl q);
     };

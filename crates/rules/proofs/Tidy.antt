@@ -11,7 +11,7 @@ use Rattle.rules.specs.Mounting.{mounted, mounted_block, blank_block}
 use Rattle.rules.specs.Safety.{Sound, RoomFor}
 use Rattle.rules.specs.declared.standings.Standing.{Standing}
 use Rattle.rules.specs.declared.standings.Standing.TheVariants.{Blank as blank_s, Open as open_s, Closed as closed_s}
-use Rattle.rules.proofs.Cleaning.{Where, found, found_at, Spot, SpotAt, spot, open_is, Next, next}
+use Rattle.rules.proofs.Cleaning.{Where, found, found_at, Spot, SpotAt, spot, open_is_lem, Next, next}
 use Rattle.rules.proofs.Mounts.{none_open}
 use Rattle.rules.proofs.Filed.{some_is}
 
@@ -38,20 +38,20 @@ open-place p s ok = go (first_where is_open_s s.stand) refl
   where
     go : (m : Option ℕ) → first_where is_open_s s.stand ≡ m → Opened s (blank_in s.blocks m)
     go None e = e
-    go (Some b) e = at (first_where is_blank (get_or s.blocks b [])) (spot (get_or s.blocks b []) (ok.open_has_room b (o closed_s)).0)
+    go (Some b) e = at (first_where is_blank (get_or s.blocks b [])) (spot (get_or s.blocks b []) (ok.open_is b (o closed_s)).0)
       where
         o : (d : Standing) → get_or s.stand b d ≡ open_s
-        o d = open_is _ ((found_at is_open_s s.stand b e).1 d)
+        o d = open_is_lem _ ((found_at is_open_s s.stand b e).1 d)
 
         at : (m : Option ℕ) → SpotAt (get_or s.blocks b []) m → Opened s (at_block b m)
-        at None h = absurd (omega (arith, (ok.open_has_room b (o closed_s)).1))
+        at None h = absurd (omega (arith, (ok.open_is b (o closed_s)).1))
         at (Some c) h = (e, h)
 
 pub none-opened : (s : Flash) → first_where is_open_s s.stand ≡ None → (i : ℕ) → get_or s.stand i closed_s ≡ open_s → ⊥
 none-opened s f i e = subst (Where is_open_s s.stand) f (found is_open_s s.stand) i closed_s (open_in s.stand i e) (ap is_open_s e)
 
 pub first-opened : (p : ℕ) (s : Flash) → Tidy p s → (b : ℕ) → first_where is_open_s s.stand ≡ Some b → (i : ℕ) → get_or s.stand i closed_s ≡ open_s → i ≡ b
-first-opened p s t b f i e = t.lone i b e (open_is _ ((found_at is_open_s s.stand b f).1 closed_s))
+first-opened p s t b f i e = t.lone i b e (open_is_lem _ ((found_at is_open_s s.stand b f).1 closed_s))
 
 copy-only : (p : ℕ) (s : Flash) → Sound p s → Tidy p s → (b c : ℕ) → copy_place s ≡ Some (b, c) → (i : ℕ) → get_or s.stand i closed_s ≡ open_s → i ≡ b
 unfolding copy_place

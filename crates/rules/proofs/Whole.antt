@@ -15,7 +15,7 @@ use Rattle.flash.specs.Blocks.{standing}
 use Rattle.rules.specs.declared.standings.Standing.{Standing}
 use Rattle.rules.specs.declared.standings.Standing.TheVariants.{Blank as blank_s, Open as open_s, Closed as closed_s}
 use Rattle.rules.proofs.Keeping.{Good}
-use Rattle.rules.proofs.Cleaning.{found_at, open_is, blank-is}
+use Rattle.rules.proofs.Cleaning.{found_at, open_is_lem, blank-is}
 use Rattle.rules.proofs.Filed.{present-file}
 use Rattle.rules.proofs.Tidy.{open_in, pair_is}
 use Rattle.rules.proofs.Placing.{Live, first-there}
@@ -146,7 +146,7 @@ stands_on w s g lv = record {
   blank_is = lv.sound.blank_is;
   blanked = λ i l e. lv.tidy.blanked i (let f = g.shape.blocks' in omega arith) e;
   lone = lv.tidy.lone;
-  open_has_room = lv.sound.open_has_room;
+  open_is = lv.sound.open_is;
   spare = λ b e. (let x = first-there is_open_s s.flash.stand b closed_s (open_in s.flash.stand b e) (ap is_open_s e) in let y = lv.spare x.0 x.1 in (y.0, blank-is _ ((found_at is_blank_s s.flash.stand y.0 y.1).1 closed_s)));
   idle = λ a b. (g.way.0, g.way.1, closed_at w s.n s.p s.flash g lv (none a) g.way.0 g.way.1 (λ e. b g.way.0 (two e)), g.way.2);
 }
@@ -156,7 +156,7 @@ stands_on w s g lv = record {
       where
         go : (m : Option ℕ) → first_where is_open_s s.flash.stand ≡ m → first_where is_open_s s.flash.stand ≡ None
         go None q = q
-        go (Some i) q = absurd (a i (open_is _ ((found_at is_open_s s.flash.stand i q).1 closed_s)))
+        go (Some i) q = absurd (a i (open_is_lem _ ((found_at is_open_s s.flash.stand i q).1 closed_s)))
 
     other : (ss : List Standing) (i : ℕ) → i < length ss → get_or ss i blank_s ≡ blank_s → get_or ss i closed_s ≡ blank_s
     other [] i l e = absurd (omega arith)
@@ -203,9 +203,9 @@ inv-from w s h = record { good = mount-good w s.n s.p s.flash.blocks h.shaped h.
   where
     live' : Stands s.n s.p s.flash → Live s.p s.flash
     live' st = record {
-      sound = record { blank_is = st.blank_is; open_has_room = st.open_has_room; same_long = st.many ∙ sym h.shaped.blocks' };
+      sound = record { blank_is = st.blank_is; open_is = st.open_is; same_long = st.many ∙ sym h.shaped.blocks' };
       tidy = record { lone = st.lone; blanked = λ i l e. st.blanked i (let a = h.shaped.blocks' in omega arith) e };
-      spare = λ b q. (let y = st.spare b (open_is _ ((found_at is_open_s s.flash.stand b q).1 closed_s)) in first-there is_blank_s s.flash.stand y.0 closed_s (blank-in s.flash.stand y.0 y.1) (ap is_blank_s y.1));
+      spare = λ b q. (let y = st.spare b (open_is_lem _ ((found_at is_open_s s.flash.stand b q).1 closed_s)) in first-there is_blank_s s.flash.stand y.0 closed_s (blank-in s.flash.stand y.0 y.1) (ap is_blank_s y.1));
     }
 
 inv-to : (w : ℕ) (s : Store) → Inv w s → Holds w s

@@ -65,7 +65,7 @@ pub record Stands (n p : ℕ) (f : Flash) : Type 0 where
   pub blanked : (i : ℕ) → i < n → slice_index_or f.blocks i [] ≡ replicate p Blank → slice_index_or f.stand i closed_s ≡ blank_s
   -- one block at most is open; its blank chunks, one at least, are its last
   pub lone : (i j : ℕ) → slice_index_or f.stand i closed_s ≡ open_s → slice_index_or f.stand j closed_s ≡ open_s → i ≡ j
-  pub open_has_room : (i : ℕ) → slice_index_or f.stand i closed_s ≡ open_s → BlankTail (slice_index_or f.blocks i []) × (1 ≤ count is_blank (slice_index_or f.blocks i []))
+  pub open_is : (i : ℕ) → slice_index_or f.stand i closed_s ≡ open_s → BlankTail (slice_index_or f.blocks i []) × (1 ≤ count is_blank (slice_index_or f.blocks i []))
   -- beside an open block one is blank; with none open and none blank, a closed block has load 0
   pub spare : (b : ℕ) → slice_index_or f.stand b closed_s ≡ open_s → (i : ℕ) × (slice_index_or f.stand i closed_s ≡ blank_s)
   pub idle : ((i : ℕ) → slice_index_or f.stand i closed_s ≢ open_s) → ((i : ℕ) → slice_index_or f.stand i closed_s ≢ blank_s) → (i : ℕ) × (i < n) × (slice_index_or f.stand i blank_s ≡ closed_s) × (load f.blocks i ≡ 0)

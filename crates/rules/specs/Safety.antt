@@ -34,7 +34,7 @@ BlankTail (Holds r ∷ cs) = BlankTail cs
 
 pub record Sound (p : ℕ) (s : Flash) : Type 0 where
   pub blank_is : (i : ℕ) → slice_index_or s.stand i closed_s ≡ blank_s → slice_index_or s.blocks i [] ≡ replicate p Blank
-  pub open_has_room : (i : ℕ) → slice_index_or s.stand i closed_s ≡ open_s → BlankTail (slice_index_or s.blocks i []) × (1 ≤ count is_blank (slice_index_or s.blocks i []))
+  pub open_is : (i : ℕ) → slice_index_or s.stand i closed_s ≡ open_s → BlankTail (slice_index_or s.blocks i []) × (1 ≤ count is_blank (slice_index_or s.blocks i []))
   pub same_long : length s.stand ≡ length s.blocks
 
 -- room for k more copies: a blank block, or k blank chunks in the open one

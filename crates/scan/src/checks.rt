@@ -31,7 +31,7 @@ fn all(a: bool, b: bool, c: bool) -> bool
 
 // The rules of a record of this kind, by its numbers and the first byte of its data.
 fn rules_by(kind: Kind, tag: &Tag, first: u8) -> bool
-    ensures { result ≡ rules_by (record { tag = tag.entry.now; bytes = first ∷ [] }) kind }
+    ensures { result ≡ rules_by (record { tag = tag.now; bytes = first ∷ [] }) kind }
 {
     let heads = between(0x1000_0000 + 257, 0x1000_0000 + 511, tag.second);
     match kind {
@@ -49,7 +49,7 @@ fn rules_by(kind: Kind, tag: &Tag, first: u8) -> bool
 
 // Whether a record keeps the rules; the first byte of its data counts for headers alone.
 fn keeps_rules(tag: &Tag, first: u8) -> bool
-    ensures { result ≡ keeps_rules (record { tag = tag.entry.now; bytes = first ∷ [] }) }
+    ensures { result ≡ keeps_rules (record { tag = tag.now; bytes = first ∷ [] }) }
 {
     let kind = kind_of(tag);
     all(

@@ -10,7 +10,6 @@ use Rattle.tags.specs.Finds.{InPlace}
 use Rattle.scan.specs.Indexes.{looks_in}
 use Rattle.questions.specs.Reads.{laid, counted_at}
 use Rattle.questions.proofs.FileBytes.{part-most, read_more, read_all}
-use Rattle.questions.proofs.Knowing.{readable}
 use Rattle.questions.proofs.Laying.{laid_none}
 use Rattle.questions.proofs.Mirrored.{has-row, found-stands, found-bytes}
 use Rattle.questions.proofs.reads.read_from.Goals as goal
@@ -27,9 +26,8 @@ pub returns-in_err-at : goal.returns-in_err-at
 returns-in_err-at g c = λ f k h e.
     let x = c.args.index.now in
     let found = c.chunk-found.result in
-    let r = readable (g.C.Chip.model c.args.chip.now) x k in
     let place = subst (λ (xs : List Look). InPlace xs found) c.looks-rows.ensures c.chunk-found.ensures.place in
-    absurd (c.in_err-at.ensures.bytes k.on r.table.sizes (found-stands (g.C.Chip.model c.args.chip.now) x.sizes (looks_in x) r found place))
+    absurd (c.in_err-at.ensures.bytes k.table.on k.table.sizes (found-stands (g.C.Chip.model c.args.chip.now) x.sizes (looks_in x) k found place))
 
 pub loop-at-preserved : goal.loop-at-preserved
 loop-at-preserved g c =
@@ -42,12 +40,11 @@ loop-at-preserved g c =
     let same = c.looks-rows.ensures in (
       part-most c.loop-at.buffer c.loop-at.at c.min-count.result (2048 - here % 2048) c.in_ok-at.field-0 m n,
       λ f k e.
-          let r = readable s x k in
           let place = subst (λ (xs : List Look). InPlace xs found) same c.chunk-found.ensures.place in
           let value = c.chunk-found.ensures.value ∙ ap (λ (xs : List Look). chunk (records xs) c.args.object (here / 2048 + 1)) same in
-          let d = c.in_ok-at.ensures.bytes k.on r.table.sizes (found-stands s x.sizes (looks_in x) r found place) in
+          let d = c.in_ok-at.ensures.bytes k.table.on k.table.sizes (found-stands s x.sizes (looks_in x) k found place) in
           read_more f (counted_at s found) c.args.position c.loop-at.at c.in_ok-at.field-0 c.min-count.result c.args.buffer.now c.loop-at.buffer c.copy_chunk.new.part m (omega arith) n
-          (found-bytes s x.sizes (looks_in x) r c.args.object (here / 2048 + 1) found value place ∙ sym ((file-at (standing (blocks_of s)) c.args.object f e).part' (here / 2048 + 1)))
+          (found-bytes s x.sizes (looks_in x) k c.args.object (here / 2048 + 1) found value place ∙ sym ((file-at (standing (blocks_of s)) c.args.object f e).part' (here / 2048 + 1)))
           (c.loop-at.invariant.1 f k e) d.1,
     )
 
