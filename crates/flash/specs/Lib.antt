@@ -4,6 +4,5 @@ pub mod Model
 pub mod Reads
 pub mod Writes
 pub mod Blocks
-pub mod Coding
 pub mod Laws
 pub mod Words

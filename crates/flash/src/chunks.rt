@@ -1,5 +1,5 @@
-ghost use Rattle.std.specs.Prelude.{◌≡◌};
-ghost use Rattle.flash.specs.Chunks.{look_of, Whole, WholeChunk};
+ghost use Rattle.std.specs.Prelude.{◌≡◌, ◌*◌};
+ghost use Rattle.flash.specs.Chunks.{look_of, tag_in, Whole, WholeChunk};
 
 // The four numbers of a record, 32 bits each.
 #[derive(Clone, Copy, PartialEq, Eq, Debug)]
@@ -45,6 +45,27 @@ pub struct Sizes {
 pub struct Place {
     pub block: u32,
     pub chunk: u32,
+}
+
+impl Look {
+    // The four numbers of the record, if there is one.
+    pub fn tag(&self) -> Option<Tag>
+        ensures { result ≡ tag_in self.now }
+    {
+        match self {
+            Look::Record(tag) => Some(*tag),
+            Look::Blank | Look::Damaged => None,
+        }
+    }
+}
+
+impl Sizes {
+    // How many chunks there are.
+    pub fn count(self) -> usize
+        ensures { result ≡ self.blocks * self.chunks }
+    {
+        self.blocks as usize * self.chunks as usize
+    }
 }
 
 // What a record's type says of it, for a proof to learn.

@@ -1,15 +1,13 @@
-// What a flash chip is: chunks and the records in them, the calls that every chip has with a contract
-// each, and the witness by which a store's type can speak of its chip. This crate touches nothing else.
+// What a flash chip is: chunks and the records in them, and the calls that every chip has with a contract
+// each. This crate touches nothing else.
 #![tactic(auto)]
 
 pub mod chips;
 pub mod chunks;
 pub mod faults;
 pub mod laws;
-pub mod ties;
 pub mod words;
 
 pub use chips::Chip;
 pub use chunks::{Chunk, Look, Place, Record, Sizes, Tag};
 pub use faults::{Act, Fault, Misfit, Purpose, Unmade};
-pub use ties::Tie;

@@ -1,3 +1,6 @@
+ghost use Rattle.std.specs.Prelude.{◌≡◌};
+ghost use Rattle.rules.specs.Records.{is_data, is_header, is_cut, is_marker};
+
 // What a record is, by its first number.
 #[derive(Clone, Copy, PartialEq, Eq, Debug)]
 pub enum Kind {
@@ -6,4 +9,31 @@ pub enum Kind {
     CutHeader,
     Marker,
     Other,
+}
+
+impl Kind {
+    pub fn is_data(self) -> bool
+        ensures { result ≡ is_data self }
+    {
+        matches!(self, Kind::Data)
+    }
+
+    // A header of either kind.
+    pub fn is_header(self) -> bool
+        ensures { result ≡ is_header self }
+    {
+        matches!(self, Kind::Header | Kind::CutHeader)
+    }
+
+    pub fn is_cut(self) -> bool
+        ensures { result ≡ is_cut self }
+    {
+        matches!(self, Kind::CutHeader)
+    }
+
+    pub fn is_marker(self) -> bool
+        ensures { result ≡ is_marker self }
+    {
+        matches!(self, Kind::Marker)
+    }
 }
