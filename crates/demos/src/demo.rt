@@ -1,5 +1,5 @@
-ghost use Rattle.std.specs.Prelude.{false, IfOk, string_bytes};
-ghost use Rattle.bench.specs.Benches.{state_of, Fresh};
+ghost use Rattle.std.specs.Prelude.{IfOk, string_bytes};
+ghost use Rattle.bench.specs.Benches.{state_of};
 ghost use Rattle.image.specs.Blanks.{BlankChip};
 ghost use Rattle.demos.specs.Demos.{Moved, Demonstrated};
 
@@ -10,16 +10,6 @@ use flash::{Chip, Chunk, Sizes};
 use std::alloc::Global;
 use texts::stops::Stop;
 
-// A chip of these rows.
-fn chip_of(rows: Vec<Chunk>, sizes: Sizes, plan: Plan) -> Result<BenchChip, Stop>
-    ensures { IfOk result (λ s. Fresh rows sizes false plan s) }
-{
-    match BenchChip::new(rows, sizes, plan) {
-        Ok(chip) => Ok(chip),
-        Err(unmade) => Err(Stop::Refused(unmade.why)),
-    }
-}
-
 // A blank chip of three blocks of four, off.
 fn blank_chip(heap: Global, plan: Plan) -> Result<BenchChip, Stop>
     ensures { IfOk result (λ s. BlankChip 3 4 (state_of s)) }
@@ -29,7 +19,7 @@ fn blank_chip(heap: Global, plan: Plan) -> Result<BenchChip, Stop>
         blocks: 3,
         chunks: 4,
     };
-    chip_of(rows, sizes, plan)
+    Ok(BenchChip::new(rows, sizes, plan)?)
 }
 
 // The chunks of a chip on another, off.
@@ -37,7 +27,7 @@ fn moved(chip: BenchChip, plan: Plan) -> Result<BenchChip, Stop>
     ensures { IfOk result (λ s. Moved (state_of chip) (state_of s)) }
 {
     let sizes = chip.sizes();
-    chip_of(chip.into_rows(), sizes, plan)
+    Ok(BenchChip::new(chip.into_rows(), sizes, plan)?)
 }
 
 // A flash chip at work while its supply fails, once in a program and once in an erase.

@@ -8,10 +8,9 @@ pub(crate) fn cut_header(object: u32, chunks: u32, serial: u32, name: &[u8]) -> 
     requires { (object ≤ 511) × (length name.now ≤ 40) }
     ensures { result ≡ cut_header object chunks serial name.now }
 {
-    let mut bytes = [0u8; 2048];
-    let count = name.len();
-    bytes[0] = count as u8;
-    bytes[1..1 + count].copy_from_slice(name);
+    let mut bytes = [0; 2048];
+    bytes[0] = name.len() as u8;
+    bytes[1..=name.len()].copy_from_slice(name);
     let tag = Tag {
         first: 0xC000_0001,
         second: 0x1000_0000 + object,
@@ -26,8 +25,8 @@ pub(crate) fn data_chunk(object: u32, number: u32, serial: u32, content: &[u8]) 
     requires { length content.now ≤ 2048 }
     ensures { result ≡ data_chunk object number serial content.now }
 {
-    let mut bytes = [0u8; 2048];
-    bytes[0..content.len()].copy_from_slice(content);
+    let mut bytes = [0; 2048];
+    bytes[..content.len()].copy_from_slice(content);
     let tag = Tag {
         first: number,
         second: object,

@@ -1,6 +1,6 @@
 use flash::{Place, Purpose, Record};
 
-// A step on a chip.
+// A step on a chip: an enum and no closure, since `Stepped` says case by case what a step does and tells.
 #[derive(Clone, Copy)]
 pub enum Step {
     Restart,

@@ -31,9 +31,9 @@ pub enum Fault {
 // Why the memory handed over does not make a chip.
 #[derive(Clone, Copy, PartialEq, Eq, Debug)]
 pub enum Misfit {
-    Mark,
-    Version,
-    Length,
+    Mark = 1,
+    Version = 2,
+    Length = 3,
 }
 
 // A chip made all the same: it has no blocks, is always on and leaves its memory as it was.
@@ -73,10 +73,6 @@ impl Misfit {
     pub fn number(&self) -> u32
         ensures { result ≡ misfit_number self.now }
     {
-        match self {
-            Misfit::Mark => 1,
-            Misfit::Version => 2,
-            Misfit::Length => 3,
-        }
+        *self as u32
     }
 }

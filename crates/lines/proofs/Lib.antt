@@ -1,1 +1,1 @@
-pub mod Looking
+pub mod Letters

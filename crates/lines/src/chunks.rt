@@ -5,22 +5,24 @@ ghost use Rattle.lines.specs.Chunks.{held_text, looked_text, chunk_line, block_l
 
 use crate::bytes::data;
 use flash::{Chip, Look, Place};
-use std::fmt;
+use std::alloc::AllocError;
+
+// The text and the chip stay two parameters: methods of a struct of both would hold a `&mut` behind a `&mut`, and say no more.
 
 // What a chunk holds, if it holds a record.
-fn held<C: Chip>(out: &mut String, chip: &C, at: Place) -> fmt::Result
+fn held<C: Chip>(out: &mut String, chip: &C, at: Place) -> Result<(), AllocError>
     requires { ((C.Chip.model chip.now).on ≡ true) × (Within (C.Chip.model chip.now) at) }
     ensures { Adds out.old (held_text ((C.Chip.model chip.now).cells at.block at.chunk)) result out.new }
 {
     let mut bytes = [0; 2048];
-    match chip.fetch(at, &mut bytes) {
-        Ok(()) => data(out, &bytes),
-        Err(_) => Ok(()),
+    if chip.fetch(at, &mut bytes).is_ok() {
+        data(out, &bytes)?;
     }
+    Ok(())
 }
 
 // What a look at a place tells.
-fn looked<C: Chip>(out: &mut String, chip: &C, at: Place) -> fmt::Result
+fn looked<C: Chip>(out: &mut String, chip: &C, at: Place) -> Result<(), AllocError>
     ensures { Adds out.old (looked_text (C.Chip.model chip.now) at) result out.new }
 {
     match chip.look(at) {
@@ -28,22 +30,26 @@ fn looked<C: Chip>(out: &mut String, chip: &C, at: Place) -> fmt::Result
             write!(out, "{look}")?;
             held(out, chip, at)
         }
-        Err(fault) => Ok(write!(out, "fault {fault}")?),
+        Err(fault) => write!(out, "fault {fault}"),
     }
 }
 
 // The line of a place.
-fn chunk_line<C: Chip>(out: &mut String, chip: &C, at: Place) -> fmt::Result
+fn chunk_line<C: Chip>(out: &mut String, chip: &C, at: Place) -> Result<(), AllocError>
     ensures { Adds out.old (chunk_line (C.Chip.model chip.now) at) result out.new }
 {
     write!(out, "{at}: ")?;
     looked(out, chip, at)?;
-    writeln!(out)?;
-    Ok(())
+    writeln!(out)
 }
 
 // The lines of a block's chunks.
-fn block_lines<C: Chip>(out: &mut String, chip: &C, block: u32, chunks: u32) -> fmt::Result
+fn block_lines<C: Chip>(
+    out: &mut String,
+    chip: &C,
+    block: u32,
+    chunks: u32,
+) -> Result<(), AllocError>
     ensures { Adds out.old (block_lines (C.Chip.model chip.now) block chunks) result out.new }
 {
     for chunk in 0..chunks {
@@ -53,7 +59,7 @@ fn block_lines<C: Chip>(out: &mut String, chip: &C, block: u32, chunks: u32) -> 
 }
 
 // The lines of all chunks, by rising place.
-pub fn chip_lines<C: Chip>(out: &mut String, chip: &C) -> fmt::Result
+pub fn chip_lines<C: Chip>(out: &mut String, chip: &C) -> Result<(), AllocError>
     ensures { Adds out.old (chip_lines (C.Chip.model chip.now) (C.Chip.model chip.now).n) result out.new }
 {
     let sizes = chip.sizes();

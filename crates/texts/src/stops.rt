@@ -1,8 +1,8 @@
 ghost use Rattle.std.specs.Prelude.{◌≡◌, Some};
-ghost use Rattle.texts.specs.declared.stops.Stop.TheVariants.{Memory};
+ghost use Rattle.texts.specs.declared.stops.Stop.TheVariants.{Memory, Refused};
 ghost use Rattle.texts.specs.Stops.{stop_text};
 
-use flash::Misfit;
+use flash::{Misfit, Unmade};
 use std::alloc::AllocError;
 use std::fmt;
 
@@ -27,6 +27,15 @@ impl From<fmt::Error> for Stop {
 
     fn from(_: fmt::Error) -> Stop {
         Stop::from(AllocError)
+    }
+}
+
+// No chip could be made of the memory handed over.
+impl<C: Drop> From<Unmade<C>> for Stop {
+    ghost from_gives = { λ u r. r ≡ Refused u.why };
+
+    fn from(unmade: Unmade<C>) -> Stop {
+        Self::Refused(unmade.why)
     }
 }
 

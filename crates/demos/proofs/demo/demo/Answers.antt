@@ -1,6 +1,5 @@
-use Rattle.std.proofs.Common.{string_bytes}
+use Rattle.std.proofs.Common.{refl}
 use Rattle.bench.specs.Benches.{state_of}
-use Rattle.demos.proofs.Telling.{both_told}
 use Rattle.demos.proofs.demo.demo.Goals as goal
 
 pub returns : goal.returns
@@ -20,5 +19,5 @@ returns c =
       plays = p.told;
       moves = c.in_ok-chip-2.ensures;
       plays_on = q.told;
-      whole = both_told (string_bytes c.new-out.result) (string_bytes c.play_all.new.out) (string_bytes c.play_all-2.new.out) p.text q.text c.new-out.ensures.bytes p.added q.added;
+      whole = rw (q.added, p.added, c.new-out.ensures.bytes) refl;
     }

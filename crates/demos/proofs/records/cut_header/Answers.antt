@@ -1,11 +1,10 @@
-use Rattle.std.proofs.Common.{◌≡◌, ℕ, ◌+◌, ◌-◌, List, ◌∷◌, length, ap, arith}
-use Rattle.flash.specs.declared.chunks.Record.{Record}
-use Rattle.demos.proofs.Laying.{laid-is}
+use Rattle.std.proofs.Common.{◌≡◌, ◌+◌, ◌-◌, ◌++◌, drop, replicate, length, refl, arith}
+use Rattle.std.proofs.lemmas.List.{drop-replicate}
 use Rattle.demos.proofs.records.cut_header.Goals as goal
 
 pub returns : goal.returns
 returns c =
-    let n = length c.args.name.now in
-    let e : 1 + n - 1 ≡ n = omega arith in
-    ap {B = Record} (λ (l : List ℕ). record { tag = record { first = 3221225473; second = 268435456 + c.args.object; third = c.args.chunks; serial = c.args.serial }; bytes = n ∷ l })
-    (laid-is 2047 (1 + n - 1) c.args.name.now c.copy_from_slice.new.self e c.copy_from_slice.ensures.after)
+    let name = c.args.name.now in
+    let n : length name + 1 - 1 ≡ length name = omega arith in
+    let laid : c.copy_from_slice.new.self ++ drop (length name + 1 - 1) (replicate 2047 0) ≡ name ++ replicate (2047 - length name) 0 = rw (c.copy_from_slice.ensures.after, n, drop-replicate) refl in
+    cc

@@ -1,10 +1,8 @@
-use Rattle.std.proofs.Common.{◌++◌, string_bytes, codes, arith}
+use Rattle.std.proofs.Common.{◌++◌, codes, rules, arith}
+use Rattle.std.proofs.lemmas.Fmt.{hex_byte}
 use Rattle.flash.specs.Words.{hex_text}
-use Rattle.texts.proofs.Adding.{each_more, each_all}
+use Rattle.texts.proofs.Adding.{each_more}
 use Rattle.lines.proofs.bytes.hexes.Goals as goal
 
-pub loop-b-preserved : goal.loop-b-preserved
-loop-b-preserved c = each_more (λ x. codes " " ++ hex_text x) (string_bytes c.args.out.now) (string_bytes c.loop-b.out) (string_bytes c.write.new.self) c.args.bytes.now c.loop-b.b-index 0 (omega arith) c.loop-b.invariant c.in_ok-write.ensures.bytes
-
-pub returns : goal.returns
-returns c = each_all (λ x. codes " " ++ hex_text x) (string_bytes c.args.out.now) (string_bytes c.loop-b.out) c.args.bytes.now c.loop-b.b-index (omega arith) c.loop-b.invariant
+pub loop-byte-preserved : goal.loop-byte-preserved
+loop-byte-preserved c = each_more (λ x. codes " " ++ hex_text x) _ _ _ c.args.bytes.now c.loop-byte.byte-index 0 (omega arith) c.loop-byte.invariant (search (rules, hex_byte, c.type_inv.bytes))

@@ -1,11 +1,9 @@
-use Rattle.std.proofs.Common.{ℕ, List, [], ◌∷◌, ◌++◌, string_bytes, ap, ◌∙◌, arith}
-use Rattle.texts.proofs.Adding.{each_more, each_all}
+use Rattle.std.proofs.Common.{rules}
+use Rattle.std.proofs.lemmas.Iterator.{YieldsList-from_slice, YieldsList-from_map}
+use Rattle.std.proofs.lemmas.Iterator.Adapters.{items_from_extend}
 use Rattle.lines.specs.Bytes.{letter_of}
+use Rattle.lines.proofs.Letters.{spelled}
 use Rattle.lines.proofs.bytes.letters.Goals as goal
 
-pub loop-b-preserved : goal.loop-b-preserved
-loop-b-preserved c = each_more (λ x. letter_of x ∷ []) (string_bytes c.args.out.now) (string_bytes c.loop-b.out) (string_bytes c.write.new.self) c.args.bytes.now c.loop-b.b-index 0 (omega arith) c.loop-b.invariant
-    (c.in_ok-write.ensures.bytes ∙ ap (λ (y : List ℕ). string_bytes c.loop-b.out ++ y) c.letter.ensures)
-
 pub returns : goal.returns
-returns c = each_all (λ x. letter_of x ∷ []) (string_bytes c.args.out.now) (string_bytes c.loop-b.out) c.args.bytes.now c.loop-b.b-index (omega arith) c.loop-b.invariant
+returns c = let h = items_from_extend c.extend.result c.extend.ensures.ran (YieldsList-from_map _ letter_of (YieldsList-from_slice c.args.bytes.now cc) (cc) (λ x r q k. search rules)) in search (rules, spelled)
