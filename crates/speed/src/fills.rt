@@ -1,29 +1,27 @@
-use flash::{Chunk, Record, Tag};
+use flash::{Chunk, Record, Sizes, Tag};
+use rules::{CHUNK_BYTES, FIRST_OBJECT, LAST_NUMBER};
 use std::alloc::{AllocError, Global};
 
 // What the chip is filled with: one file of 1,000 chunks, the longest there is, and then files of 50 chunks. Each file has its
 // header first. Record i has serial i + 1.
 
+// The largest chip.
+pub(crate) const SIZES: Sizes = Sizes {
+    blocks: 64,
+    chunks: 32,
+};
+
 // How many records the long file has, and how many each other one.
-const LONG: u32 = 1001;
+const LONG: u32 = LAST_NUMBER + 1;
 
 const SHORT: u32 = 51;
 
-// All chunks of the chip.
-const CHUNKS: u32 = 2048;
-
-// The file that record i is of, counted from 0, and its chunk number there; 0 means the header.
-fn part(i: u32) -> (u32, u32) {
-    if i < LONG {
-        (0, i)
-    } else {
-        (1 + (i - LONG) / SHORT, (i - LONG) % SHORT)
-    }
-}
+// `demos` and `probes` make records of their own as well. A function for all would be public, so it could ask nothing of its
+// caller: it would have to refuse a long name, and each call to handle that.
 
 // A header of length 0; the file's number is its name.
 fn header(file: u32, serial: u32) -> Record {
-    let mut bytes = [0u8; 2048];
+    let mut bytes = [0; CHUNK_BYTES];
     bytes[0] = 4;
     bytes[1..5].copy_from_slice(&file.to_le_bytes());
     let tag = Tag {
@@ -39,33 +37,39 @@ fn header(file: u32, serial: u32) -> Record {
 fn data(file: u32, number: u32, serial: u32) -> Record {
     let tag = Tag {
         first: number,
-        second: 257u32.saturating_add(file),
-        third: 2048,
+        second: FIRST_OBJECT.saturating_add(file),
+        third: CHUNK_BYTES as u32,
         serial,
     };
     Record {
         tag,
-        bytes: [(serial % 256) as u8; 2048],
+        bytes: [(serial % 256) as u8; CHUNK_BYTES],
     }
 }
 
 fn record(i: u32) -> Record {
     let serial = i.saturating_add(1);
-    match part(i) {
-        (file, 0) => header(file, serial),
-        (file, number) => data(file, number, serial),
+    // files are counted from 0; chunk number 0 is the header
+    let (file, number) = match i.checked_sub(LONG) {
+        None => (0, i),
+        Some(after) => (1 + after / SHORT, after % SHORT),
+    };
+    if number == 0 {
+        header(file, serial)
+    } else {
+        data(file, number, serial)
     }
 }
 
 // The rows of a chip that holds this many records, one after another.
 pub(crate) fn filled(heap: Global, count: u32) -> Result<Vec<Chunk>, AllocError> {
-    let mut rows = Vec::with_capacity(heap, CHUNKS as usize)?;
-    for i in 0..CHUNKS {
-        rows.push(if i < count {
-            Chunk::Holds(record(i))
-        } else {
-            Chunk::Blank
-        })?;
-    }
-    Ok(rows)
+    (0..SIZES.blocks * SIZES.chunks)
+        .map(|i| {
+            if i < count {
+                Chunk::Holds(record(i))
+            } else {
+                Chunk::Blank
+            }
+        })
+        .collect(heap)
 }

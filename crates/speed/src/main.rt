@@ -10,8 +10,8 @@ use std::env;
 
 fn run(rt: &HostRuntime) -> anyhow::Result<()> {
     let word = env::args(rt)?.nth(1);
-    match word {
-        Some(word) if word.as_str() == "run" => measure_all(rt),
+    match word.as_deref() {
+        Some("run") => measure_all(rt),
         _ => {
             println!(rt;
                 "write 'speed run' to measure mount, list and read on a chip of 64 blocks of 32 chunks"

@@ -1,17 +1,12 @@
-use crate::fills::filled;
+use crate::fills::{SIZES, filled};
 use anyhow::anyhow;
 use bench::{BenchChip, Plan};
-use flash::{Chunk, Sizes};
-use rules::Row;
+use flash::Chunk;
+use rules::{CHUNK_BYTES, FIRST_OBJECT, LAST_NUMBER, Row};
 use scan::Refusal;
 use std::fmt;
 use std::time::{Duration, Instant};
 use store::Store;
-
-const SIZES: Sizes = Sizes {
-    blocks: 64,
-    chunks: 32,
-};
 
 const SURE: Plan = Plan {
     fails: 0,
@@ -19,10 +14,8 @@ const SURE: Plan = Plan {
     takes: 0,
 };
 
-// The object of the long file, and its size.
-const LONGEST: u32 = 257;
-
-const BYTES: usize = 2_048_000;
+// The size of the long file, the first object.
+const BYTES: usize = LAST_NUMBER as usize * CHUNK_BYTES;
 
 const NONE: Row = Row {
     object: 0,
@@ -32,21 +25,8 @@ const NONE: Row = Row {
 
 // A stopped store over a chip of these rows.
 fn attached(rt: &HostRuntime, rows: Vec<Chunk>) -> anyhow::Result<Store<BenchChip>> {
-    let Ok(chip) = BenchChip::new(rows, SIZES, SURE) else {
-        return Err(anyhow!("the rows do not fit"));
-    };
-    match Store::attach(rt.alloc(), chip) {
-        Ok(store) => Ok(store),
-        Err(_) => Err(anyhow!("no memory")),
-    }
-}
-
-// What a call answers, unless it refuses.
-fn granted<T: Drop>(answer: Result<T, Refusal>) -> anyhow::Result<T> {
-    match answer {
-        Ok(value) => Ok(value),
-        Err(_) => Err(anyhow!("the store refuses")),
-    }
+    let chip = BenchChip::new(rows, SIZES, SURE).map_err(|_| anyhow!("the rows do not fit"))?;
+    Store::attach(rt.alloc(), chip).map_err(|_| anyhow!("no memory"))
 }
 
 // A time in milliseconds.
@@ -60,40 +40,30 @@ impl fmt::Display for Millis {
     }
 }
 
-fn mount(rt: &HostRuntime, how: &str, store: &mut Store<BenchChip>) -> anyhow::Result<()> {
+// What a call answers, unless it refuses, and how long it took.
+fn timed<T: Drop, F: FnOnce() -> Result<T, Refusal>>(
+    rt: &HostRuntime,
+    call: F,
+) -> anyhow::Result<(T, Millis)>
+    requires { F.pre call }
+{
     let start = Instant::now(rt)?;
-    granted(store.mount())?;
-    let time = Millis(start.elapsed(rt)?);
-    println!(rt; "{how}: mount: {time}")?;
-    Ok(())
+    let answer = call().map_err(|_| anyhow!("the store refuses"))?;
+    Ok((answer, Millis(start.elapsed(rt)?)))
 }
 
-// Lists the files, and answers their number.
-fn list(rt: &HostRuntime, how: &str, store: &Store<BenchChip>) -> anyhow::Result<usize> {
-    let mut rows = [NONE; 255];
-    let start = Instant::now(rt)?;
-    let count = granted(store.list(&mut rows))?;
-    let time = Millis(start.elapsed(rt)?);
-    println!(rt; "{how}: list of {count} files: {time}")?;
-    Ok(count)
-}
-
-// Reads the long file.
-fn read(rt: &HostRuntime, how: &str, store: &Store<BenchChip>) -> anyhow::Result<()> {
-    let mut buffer = vec![in rt.alloc(); 0u8; BYTES]?;
-    let start = Instant::now(rt)?;
-    let count = granted(store.read(LONGEST, 0, &mut buffer))?;
-    let time = Millis(start.elapsed(rt)?);
-    println!(rt; "{how}: read of {count} bytes: {time}")?;
-    Ok(())
-}
-
-// Measures a chip that holds this many records.
+// Measures a chip that holds this many records: mount, list and, if there is a file, a read of the long one.
 fn measure(rt: &HostRuntime, how: &str, count: u32) -> anyhow::Result<()> {
     let mut store = attached(rt, filled(rt.alloc(), count)?)?;
-    mount(rt, how, &mut store)?;
-    if list(rt, how, &store)? > 0 {
-        read(rt, how, &store)?;
+    let ((), time) = timed(rt, || store.mount())?;
+    println!(rt; "{how}: mount: {time}")?;
+    let mut rows = [NONE; 255];
+    let (files, time) = timed(rt, || store.list(&mut rows))?;
+    println!(rt; "{how}: list of {files} files: {time}")?;
+    if files > 0 {
+        let mut buffer = vec![in rt.alloc(); 0u8; BYTES]?;
+        let (count, time) = timed(rt, || store.read(FIRST_OBJECT, 0, &mut buffer))?;
+        println!(rt; "{how}: read of {count} bytes: {time}")?;
     }
     Ok(())
 }

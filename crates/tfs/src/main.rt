@@ -5,111 +5,94 @@
 use commands::create::create;
 use commands::dump::dump;
 use demos::demo::demo;
-use std::fmt::Display;
 use std::fs::OpenOptions;
 use std::io::{ErrorKind, Write};
 use std::process::ExitCode;
 use std::{env, fs, io};
 use texts::stops::Stop;
-use words::parsing::{Command, parse};
+use thiserror::Error;
+use words::parsing::{Command, Misuse, parse};
 use words::usage::help;
 
-// A line on standard error has said why.
-struct Failed;
-
-fn fail(rt: &HostRuntime, why: impl Display + Drop) -> Failed {
-    let _ = eprintln!(rt; "tfs: {why}");
-    Failed
-}
-
-fn show(rt: &HostRuntime, text: Result<String, Stop>) -> Result<(), Failed> {
-    match text {
-        Ok(text) => match print!(rt; "{text}") {
-            Ok(()) => Ok(()),
-            Err(error) => Err(fail(rt, error)),
-        },
-        Err(stop) => Err(fail(rt, stop)),
-    }
-}
-
-// What a command tells of a file.
-fn show_of(rt: &HostRuntime, path: &str, text: Result<String, Stop>) -> Result<(), Failed> {
-    match text {
-        Err(stop) => Err(fail(rt, format_args!("{path}: {stop}"))),
-        text => show(rt, text),
-    }
-}
-
-fn read(rt: &HostRuntime, path: &str) -> Result<Vec<u8>, Failed> {
-    match fs::read(rt, path) {
-        Ok(bytes) => Ok(bytes),
-        Err(error) => Err(fail(rt, format_args!("cannot read {path}: {error}"))),
-    }
+// Why the program does not do what its words ask for.
+#[derive(Debug, Drop, Error)]
+enum Failure<'a> {
+    #[error("{0}")]
+    Misuse(#[from] Misuse<'a>),
+    #[error("{0}")]
+    Stop(#[from] Stop),
+    #[error("{0}")]
+    Io(#[from] io::Error),
+    #[error("{path}: {stop}")]
+    Image { path: &'a str, stop: Stop },
+    #[error("cannot read {path}: {error}")]
+    Read { path: &'a str, error: io::Error },
+    #[error("cannot write {path}: {error}")]
+    Write { path: &'a str, error: io::Error },
+    #[error("{path} is there already and is not overwritten")]
+    Taken { path: &'a str },
 }
 
 // Writes a file that is not there yet.
 fn write_new(rt: &HostRuntime, path: &str, bytes: &[u8]) -> io::Result<()> {
-    let mut options = OpenOptions::new();
-    options.write(true);
-    options.create_new(true);
-    let mut file = options.open(rt, path)?;
+    let mut file = OpenOptions::new()
+        .write(true)
+        .create_new(true)
+        .open(rt, path)?;
     file.write_all(bytes)
 }
 
-fn create_file(rt: &HostRuntime, path: &str, blocks: u8, chunks: u8) -> Result<(), Failed> {
-    let bytes = match create(rt.alloc(), blocks, chunks) {
-        Ok(bytes) => bytes,
-        Err(stop) => return Err(fail(rt, stop)),
-    };
-    match write_new(rt, path, &bytes) {
-        Ok(()) => Ok(()),
-        Err(error) => match error.kind() {
-            ErrorKind::AlreadyExists => Err(fail(
-                rt,
-                format_args!("{path} is there already and is not overwritten"),
-            )),
-            _ => Err(fail(rt, format_args!("cannot write {path}: {error}"))),
-        },
-    }
+fn create_file<'a>(
+    rt: &HostRuntime,
+    path: &'a str,
+    blocks: u8,
+    chunks: u8,
+) -> Result<(), Failure<'a>> {
+    let bytes = create(rt.alloc(), blocks, chunks)?;
+    write_new(rt, path, &bytes).map_err(|error| match error.kind() {
+        ErrorKind::AlreadyExists => Failure::Taken { path },
+        _ => Failure::Write { path, error },
+    })
 }
 
-fn dump_file(rt: &HostRuntime, path: &str) -> Result<(), Failed> {
-    let bytes = read(rt, path)?;
-    show_of(rt, path, dump(rt.alloc(), bytes))
+// What the image in a file holds.
+fn dump_file<'a>(rt: &HostRuntime, path: &'a str) -> Result<String, Failure<'a>> {
+    let bytes = fs::read(rt, path).map_err(|error| Failure::Read { path, error })?;
+    dump(rt.alloc(), bytes).map_err(|stop| Failure::Image { path, stop })
 }
 
-fn run(rt: &HostRuntime, command: Command<'_>) -> Result<(), Failed> {
-    match command {
-        Command::Help => show(rt, help(rt.alloc())),
-        Command::Demo => show(rt, demo(rt.alloc())),
+fn run<'a>(rt: &HostRuntime, words: &'a [String]) -> Result<(), Failure<'a>> {
+    let text = match parse(words)? {
+        Command::Help => help(rt.alloc())?,
+        Command::Demo => demo(rt.alloc())?,
         Command::New {
             file,
             blocks,
             chunks,
-        } => create_file(rt, file, blocks, chunks),
-        Command::Dump { file } => dump_file(rt, file),
-    }
+        } => return create_file(rt, file, blocks, chunks),
+        Command::Dump { file } => dump_file(rt, file)?,
+    };
+    Ok(print!(rt; "{text}")?)
 }
 
 fn arguments(rt: &HostRuntime) -> io::Result<Vec<String>> {
-    let words = env::args(rt)?.skip(1).collect(rt.alloc())?;
-    Ok(words)
+    Ok(env::args(rt)?.skip(1).collect(rt.alloc())?)
 }
 
-fn start(rt: &HostRuntime) -> Result<(), Failed> {
-    let words = match arguments(rt) {
-        Ok(words) => words,
-        Err(error) => return Err(fail(rt, error)),
-    };
-    match parse(&words) {
-        Ok(command) => run(rt, command),
-        Err(misuse) => Err(fail(rt, misuse)),
+// The exit status; a line on standard error says why the program failed.
+fn status(rt: &HostRuntime, done: Result<(), Failure<'_>>) -> ExitCode {
+    match done {
+        Ok(()) => ExitCode::SUCCESS,
+        Err(why) => {
+            let _ = eprintln!(rt; "tfs: {why}");
+            ExitCode::FAILURE
+        }
     }
 }
 
 fn main(rt: HostRuntime) -> ExitCode {
-    match start(&rt) {
-        Ok(()) => ExitCode::SUCCESS,
-        Err(Failed) => ExitCode::FAILURE,
+    match arguments(&rt) {
+        Ok(words) => status(&rt, run(&rt, &words)),
+        Err(error) => status(&rt, Err(error.into())),
     }
 }

@@ -7,11 +7,9 @@ use texts::stops::Stop;
 use words::parsing::{Command, parse};
 
 fn words(heap: Global, line: &str) -> Result<Vec<String>, AllocError> {
-    let mut words = Vec::new(heap);
-    for word in line.split_whitespace() {
-        words.push(String::from_str(heap, word)?)?;
-    }
-    Ok(words)
+    line.split_whitespace()
+        .map(|word| String::from_str(heap, word))
+        .try_collect(heap)
 }
 
 // What the program makes of its words: the command, or the line that it prints.
@@ -39,13 +37,11 @@ fn expect(rt: &(impl Abort + AllocGlobal), line: &str, said: &str) -> Result<(),
 
 fn refuses(rt: &(impl Abort + AllocGlobal), bytes: &[u8], said: &str) -> Result<(), Fail> {
     let heap = rt.alloc();
-    match dump(heap, bytes.to_vec(heap)?) {
-        Ok(_) => Err(Fail::new("it is an image")),
-        Err(stop) => {
-            assert_eq!(rt; format!(in heap; "{stop}")?.as_str(), said);
-            Ok(())
-        },
-    }
+    let Err(stop) = dump(heap, bytes.to_vec(heap)?) else {
+        return Err(Fail::new("it is an image"));
+    };
+    assert_eq!(rt; format!(in heap; "{stop}")?.as_str(), said);
+    Ok(())
 }
 
 #[test]

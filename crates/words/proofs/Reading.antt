@@ -1,18 +1,39 @@
--- One digit more, under the largest number of 32 bits. Assumes nothing.
-use Rattle.std.proofs.Common.{◌≡◌, ℕ, ◌+◌, ◌-◌, ◌*◌, ◌<◌, ◌≤◌, min, cond, leb, ◌⊎◌, List, [], ◌∷◌, Some, None, Option, ap, ⊎_elim, arith}
-use Rattle.std.proofs.lemmas.Bool.{le-leb, lt-leb, and_from, and_left, and_right, cond-true, cond-false}
-use Rattle.words.specs.Numbers.{is_digit, read_on}
+-- What the digits of a text write. Assumes nothing.
+use Rattle.std.proofs.Common.{◌≡◌, ℕ, ◌+◌, ◌-◌, ◌*◌, ◌^◌, ◌<◌, min, cond, true, false, ◌&&◌, List, [], ◌∷◌, length, Some, None, Result, Ok, Err, refl, ap, sym, ◌∙◌, arith, rules}
+use Rattle.std.proofs.lemmas.Str.Parse.{IsNumeralModel, numerals_by_fold, parse_digits}
+use Rattle.std.specs.List.{list_all}
+use Rattle.std.specs.Result.{OkIff, result_unwrap_or}
+use Rattle.std.specs.Str.Parse.{ParsesUnsigned}
+use Rattle.words.specs.Numbers.{is_digit, read_on, number_of}
 
--- only the number up to the largest counts
-pub read-capped : (m n : ℕ) (cs : List ℕ) → min m 4294967295 ≡ min n 4294967295 → read_on m cs ≡ read_on n cs
-read-capped m n [] e = ap (λ (k : ℕ). Some k) e
-read-capped m n (c ∷ cs) e = ap (λ (o : Option ℕ). cond (is_digit c) o None) (read-capped (10 * m + (c - 48)) (10 * n + (c - 48)) cs (omega arith))
+-- the number that digits write after n, however large
+abbrev pub follow : ℕ → List ℕ → ℕ
+follow n [] = n
+follow n (c ∷ cs) = follow (10 * n + (c - 48)) cs
 
-pub read-digit : (n b : ℕ) (cs : List ℕ) → 48 ≤ b → b ≤ 57 → read_on n (b ∷ cs) ≡ read_on (10 * n + (b - 48)) cs
-read-digit n b cs l h = cond-true (is_digit b) (read_on (10 * n + (b - 48)) cs) None (and_from (leb 48 b) (leb b 57) (le-leb 48 b l) (le-leb b 57 h))
+own : IsNumeralModel (λ ds. list_all is_digit ds ≡ true) (follow 0)
+own = numerals_by_fold _ (search rules) follow (search rules)
 
-pub read-other : (n b : ℕ) (cs : List ℕ) → (b < 48) ⊎ ((48 ≤ b) × (57 < b)) → read_on n (b ∷ cs) ≡ None
-read-other n b cs d = cond-false (is_digit b) (read_on (10 * n + (b - 48)) cs) None (⊎_elim
-    (λ (l : b < 48). and_left (leb 48 b) (leb b 57) (lt-leb 48 b l))
-    (λ (h : (48 ≤ b) × (57 < b)). and_right (leb 48 b) (leb b 57) (lt-leb b 57 h.1))
-    d)
+read_by_all : (n : ℕ) (cs : List ℕ) → read_on n cs ≡ cond (list_all is_digit cs) (Some (min (follow n cs) 4294967295)) None
+read_by_all n [] = refl
+read_by_all n (c ∷ cs) =
+    let m = 10 * n + (c - 48) in
+    elim (is_digit c) as (λ b. cond b (read_on m cs) None ≡ cond (b && list_all is_digit cs) (Some (min (follow m cs) 4294967295)) None) [
+      | true ↦ read_by_all m cs
+      | false ↦ refl
+    ]
+
+capped : {E : Type 0} (n : ℕ) (P : Type 0) (r : Result ℕ E) → P → OkIff r (P × (n < 2 ^ 32)) n → result_unwrap_or r 4294967295 ≡ min n 4294967295
+capped n P (Ok x) p q = omega arith
+capped n P (Err e) p q = let k : ¬ (n < 2 ^ 32) = λ h. q (p, h) in omega arith
+
+pub other_text : (t : List ℕ) → list_all is_digit t ≡ false → None ≡ number_of t
+other_text [] h = refl
+other_text (c ∷ cs) h = sym (rw h at (read_by_all 0 (c ∷ cs)))
+
+pub digits_text : {E : Type 0} (t : List ℕ) (r : Result ℕ E) → 0 < length t → list_all is_digit t ≡ true → ParsesUnsigned 32 10 t r → Some (result_unwrap_or r 4294967295) ≡ number_of t
+digits_text [] r l h p = absurd (omega arith)
+digits_text (c ∷ cs) r l h p =
+    let t = c ∷ cs in
+    let e = capped (follow 0 t) (0 < length t) r l (parse_digits own 32 t r p h) in
+    ap (λ (n : ℕ). Some n) e ∙ sym (rw h at (read_by_all 0 t))

@@ -1,4 +1,4 @@
--- Numbers as words, and the sizes of a chip that a store can mount. Assumes nothing.
+-- Numbers as words. Assumes nothing.
 use Rattle.std.specs.Prelude.{ℕ, ◌+◌, ◌-◌, ◌*◌, min, Bool, cond, ◌&&◌, List, [], ◌∷◌, Some, None, Option, nat_le}
 
 abbrev pub is_digit : ℕ → Bool
@@ -13,7 +13,3 @@ read_on n (c ∷ cs) = cond (is_digit c) (read_on (10 * n + (c - 48)) cs) None
 abbrev pub number_of : List ℕ → Option ℕ
 number_of [] = None
 number_of (c ∷ cs) = read_on 0 (c ∷ cs)
-
--- N from 3 to 64, P from 2 to 64, and N × P at most 2,048
-abbrev pub mountable : ℕ → ℕ → Bool
-mountable n p = nat_le 3 n && (nat_le n 64 && (nat_le 2 p && (nat_le p 64 && nat_le (n * p) 2048)))

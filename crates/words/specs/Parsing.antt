@@ -1,6 +1,8 @@
 -- Which words are which command, and which are refused and why. Assumes nothing.
 use Rattle.std.specs.Prelude.{◌≡◌, ℕ, ◌+◌, ◌<◌, true, false, ◌≢◌, ◌⊎◌, List, [], map, length, Some, None, Ok, Err, string_bytes, Result, String, slice_index_or}
 use Rattle.std.specs.declared.alloc.Global.{Global}
+use Rattle.flash.specs.declared.chunks.Sizes.{Sizes as ChipSizes}
+use Rattle.rules.specs.Mounting.{sizes_fit}
 use Rattle.words.specs.declared.names.Name.{Name}
 use Rattle.words.specs.declared.names.Name.TheVariants.{Help as HelpN, Demo as DemoN, New as NewN, Dump as DumpN}
 use Rattle.words.specs.declared.parsing.Command.{Command}
@@ -8,7 +10,7 @@ use Rattle.words.specs.declared.parsing.Command.TheVariants.{Help, Demo, New, Du
 use Rattle.words.specs.declared.parsing.Misuse.{Misuse}
 use Rattle.words.specs.declared.parsing.Misuse.TheVariants.{Unknown, Operands, NotANumber, Sizes}
 use Rattle.words.specs.Names.{name_text, operand_count}
-use Rattle.words.specs.Numbers.{number_of, mountable}
+use Rattle.words.specs.Numbers.{number_of}
 
 abbrev pub texts_of : List (String Global) → List (List ℕ)
 texts_of ws = map string_bytes ws
@@ -31,23 +33,23 @@ Called ws (Err (NotANumber w)) = ⊥
 Called ws (Err Sizes) = ⊥
 
 -- two words write the numbers of blocks and chunks of a chip that a store can mount
-abbrev pub SizesBy : List ℕ → List ℕ → Result (ℕ × ℕ) Misuse → Type 0
-SizesBy n p (Ok v) = (number_of n ≡ Some v.0) × (number_of p ≡ Some v.1) × (mountable v.0 v.1 ≡ true)
+abbrev pub SizesBy : List ℕ → List ℕ → Result ChipSizes Misuse → Type 0
+SizesBy n p (Ok v) = (number_of n ≡ Some v.blocks) × (number_of p ≡ Some v.chunks) × (sizes_fit v.blocks v.chunks ≡ true)
 SizesBy n p (Err (Unknown w)) = ⊥
 SizesBy n p (Err (Operands m)) = ⊥
 SizesBy n p (Err (NotANumber w)) = ((w.now ≡ n) × (number_of n ≡ None)) ⊎ ((w.now ≡ p) × (number_of n ≢ None) × (number_of p ≡ None))
-SizesBy n p (Err Sizes) = (a b : ℕ) × (number_of n ≡ Some a) × (number_of p ≡ Some b) × (mountable a b ≡ false)
+SizesBy n p (Err Sizes) = (a b : ℕ) × (number_of n ≡ Some a) × (number_of p ≡ Some b) × (sizes_fit a b ≡ false)
 
 -- the operands of `new`: a file, and the numbers of blocks and chunks of a chip that a store can mount
 abbrev pub CreatesBy : List ℕ → List ℕ → List ℕ → Result Command Misuse → Type 0
 CreatesBy f n p (Ok Help) = ⊥
 CreatesBy f n p (Ok Demo) = ⊥
-CreatesBy f n p (Ok (New g a b)) = (g.now ≡ f) × (number_of n ≡ Some a) × (number_of p ≡ Some b) × (mountable a b ≡ true)
+CreatesBy f n p (Ok (New g a b)) = (g.now ≡ f) × (number_of n ≡ Some a) × (number_of p ≡ Some b) × (sizes_fit a b ≡ true)
 CreatesBy f n p (Ok (Dump g)) = ⊥
 CreatesBy f n p (Err (Unknown w)) = ⊥
 CreatesBy f n p (Err (Operands m)) = ⊥
 CreatesBy f n p (Err (NotANumber w)) = ((w.now ≡ n) × (number_of n ≡ None)) ⊎ ((w.now ≡ p) × (number_of n ≢ None) × (number_of p ≡ None))
-CreatesBy f n p (Err Sizes) = (a b : ℕ) × (number_of n ≡ Some a) × (number_of p ≡ Some b) × (mountable a b ≡ false)
+CreatesBy f n p (Err Sizes) = (a b : ℕ) × (number_of n ≡ Some a) × (number_of p ≡ Some b) × (sizes_fit a b ≡ false)
 
 abbrev pub Creates : List (List ℕ) → Result Command Misuse → Type 0
 Creates ws r = Calls ws NewN × CreatesBy (word_at ws 1) (word_at ws 2) (word_at ws 3) r

@@ -1,5 +1,9 @@
-ghost use Rattle.std.specs.Prelude.{◌≡◌};
-ghost use Rattle.words.specs.Names.{Named, operand_count};
+ghost use Rattle.std.specs.Prelude.{◌≡◌, IfErr};
+ghost use Rattle.std.specs.Result.{result_ok};
+ghost use Rattle.words.specs.declared.parsing.Misuse.TheVariants.{Unknown};
+ghost use Rattle.words.specs.Names.{Named};
+
+use crate::parsing::Misuse;
 
 // The commands, by their names.
 #[derive(Clone, Copy, PartialEq, Eq, Debug)]
@@ -10,28 +14,19 @@ pub enum Name {
     Dump,
 }
 
-impl Name {
-    // The command that a word names.
-    pub(crate) fn of(word: &str) -> Option<Name>
-        ensures { Named word.now result }
-    {
-        match word {
-            "help" => Some(Name::Help),
-            "demo" => Some(Name::Demo),
-            "new" => Some(Name::New),
-            "dump" => Some(Name::Dump),
-            _ => None,
-        }
-    }
+// The command that a word names.
+impl<'a> TryFrom<&'a str> for Name {
+    type Error = Misuse<'a>;
 
-    // How many words follow the name.
-    pub(crate) fn operand_count(self) -> usize
-        ensures { result ≡ operand_count self }
-    {
-        match self {
-            Name::Help | Name::Demo => 0,
-            Name::New => 3,
-            Name::Dump => 1,
+    ghost try_from_gives = { λ word r. Named word.now (result_ok r) × IfErr r (λ e. e ≡ Unknown word) };
+
+    fn try_from(word: &'a str) -> Result<Name, Misuse<'a>> {
+        match word {
+            "help" => Ok(Name::Help),
+            "demo" => Ok(Name::Demo),
+            "new" => Ok(Name::New),
+            "dump" => Ok(Name::Dump),
+            _ => Err(Misuse::Unknown(word)),
         }
     }
 }

@@ -1,6 +1,4 @@
 ghost use Rattle.std.specs.Prelude.{◌≡◌, IfOk, Some, string_bytes};
-ghost use Rattle.std.specs.List.{flat_map};
-ghost use Rattle.texts.specs.Texts.{Adds};
 ghost use Rattle.words.specs.Usage.{synopsis_text, purpose_text, usage_of, usage_text, misuse_text};
 
 use crate::names::Name;
@@ -36,29 +34,24 @@ impl Name {
     }
 }
 
-fn usage_of(out: &mut String, name: Name) -> fmt::Result
-    ensures { Adds out.old (usage_of name) result out.new }
-{
-    writeln!(out, "{}\n    {}", name.synopsis(), name.purpose())?;
-    Ok(())
-}
+// A command in the help.
+#[derive(Clone, Copy)]
+struct Usage(Name);
 
-fn usage(out: &mut String, names: &[Name]) -> fmt::Result
-    ensures { Adds out.old (flat_map usage_of names.now) result out.new }
-{
-    for name in names {
-        usage_of(out, *name)?;
+impl fmt::Display for Usage {
+    ghost output = { λ x. Some (usage_of x.0) };
+
+    fn fmt<W: fmt::Write>(&self, f: &mut fmt::Formatter<W>) -> fmt::Result {
+        writeln!(f, "{}\n    {}", self.0.synopsis(), self.0.purpose())
     }
-    Ok(())
 }
 
 // What every command is for.
 pub fn help(heap: Global) -> Result<String, Stop>
     ensures { IfOk result (λ v. string_bytes v ≡ usage_text) }
 {
-    let mut out = String::new(heap);
-    usage(&mut out, &[Name::Demo, Name::New, Name::Dump, Name::Help])?;
-    Ok(out)
+    let [demo, new, dump, help] = [Name::Demo, Name::New, Name::Dump, Name::Help].map(Usage);
+    Ok(format!(in heap; "{demo}{new}{dump}{help}")?)
 }
 
 impl fmt::Display for Misuse<'_> {
