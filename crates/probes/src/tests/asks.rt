@@ -47,15 +47,14 @@ fn content(object: u32, position: u64) -> u8 {
 
 // Reads into a buffer of this length, and holds every byte of it to the file or to what stood there.
 fn reads(
-    rt: &impl Abort,
+    rt: &(impl Abort + AllocGlobal),
     store: &Store<BenchChip>,
-    heap: Global,
     object: u32,
     position: u64,
     long: usize,
     count: usize,
 ) -> Result<(), Fail> {
-    let mut buffer = vec![in heap; 0xEEu8; long]?;
+    let mut buffer = vec![in rt.alloc(); 0xEEu8; long]?;
     assert_eq!(rt;
         store.read(object, position, &mut buffer)?,
         count,
@@ -104,7 +103,7 @@ const READS: [(u32, u64, usize, usize); 20] = [
 fn positions(rt: HostRuntime) -> Result<(), Fail> {
     let store = two_files(rt.alloc())?;
     for (object, position, long, count) in READS {
-        reads(&rt, &store, rt.alloc(), object, position, long, count)?;
+        reads(&rt, &store, object, position, long, count)?;
     }
     Ok(())
 }
@@ -160,21 +159,6 @@ fn names(rt: HostRuntime) -> Result<(), Fail> {
     Ok(())
 }
 
-// What list answers with this many rows, and what the rows then are.
-fn lists_into(
-    rt: &impl Abort,
-    store: &Store<BenchChip>,
-    long: usize,
-) -> Result<(u32, [Row; 4]), Fail> {
-    let mut rows = [row(9, 9, 9); 4];
-    assert!(rt; long <= 4);
-    match store.list(&mut rows[0..long]) {
-        Ok(count) => assert_eq!(rt; count, 2),
-        Err(refusal) => return Ok((refusal.number(), rows)),
-    }
-    Ok((0, rows))
-}
-
 // 29 with fewer rows than files, and nothing is written then; the rows beyond stay.
 #[test]
 fn rows(rt: HostRuntime) -> Result<(), Fail> {
@@ -182,15 +166,18 @@ fn rows(rt: HostRuntime) -> Result<(), Fail> {
     let [first, second] = BOTH;
     let kept = row(9, 9, 9);
     for long in 0..5 {
-        let (number, rows) = lists_into(&rt, &store, long)?;
-        let few = long < 2;
-        assert_eq!(rt; number, if few { 29 } else { 0 }, "{}", long);
-        let expected = if few {
-            [kept; 4]
+        let mut rows = [kept; 4];
+        let answer = store.list(&mut rows[0..long]);
+        if long < 2 {
+            assert_eq!(rt; (told(answer), rows), (29, [kept; 4]), "{}", long);
         } else {
-            [first, second, kept, kept]
-        };
-        assert_eq!(rt; rows, expected, "{}", long);
+            assert_eq!(rt;
+                (answer, rows),
+                (Ok(2), [first, second, kept, kept]),
+                "{}",
+                long
+            );
+        }
     }
     lists(&rt, &running(rt.alloc(), 3, 2, &[BLANK; 6])?, &[])?;
     let none = running(rt.alloc(), 3, 2, &[BLANK; 6])?;

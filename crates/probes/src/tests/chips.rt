@@ -14,6 +14,15 @@ pub(crate) const SURE: Plan = Plan {
     takes: 0,
 };
 
+// The first numbers of a header, a cut header and a marker, and the highest number there is.
+pub(crate) const HEAD: u32 = 0x8000_0001;
+
+pub(crate) const CUT: u32 = 0xC000_0001;
+
+pub(crate) const MARK: u32 = 0xC000_0004;
+
+pub(crate) const MOST: u32 = 0xFFFF_FFFF;
+
 pub(crate) const BLANK: Chunk = Chunk::Blank;
 
 pub(crate) const DAMAGED: Chunk = Chunk::Damaged;
@@ -31,6 +40,9 @@ pub(crate) fn at(block: u32, chunk: u32) -> Place {
     Place { block, chunk }
 }
 
+// Records, made here as in `speed` and `demos`: a function for all would be public, so it could ask nothing of its caller, and
+// would have to refuse long names.
+
 // A record of these numbers, every data byte the same.
 pub(crate) fn raw(tag: Tag, byte: u8) -> Chunk {
     let bytes = [byte; 2048];
@@ -43,7 +55,7 @@ pub(crate) fn data(object: u32, number: u32, count: u32, serial: u32) -> Chunk {
 }
 
 pub(crate) fn marker(object: u32, serial: u32) -> Chunk {
-    raw(tag(0xC000_0004, 0x1000_0000 | object, 0, serial), 0)
+    raw(tag(MARK, 0x1000_0000 | object, 0, serial), 0)
 }
 
 // The data of a header with this name.
@@ -62,32 +74,27 @@ fn head(first: u32, object: u32, length: u32, serial: u32, name: &[u8]) -> Chunk
 }
 
 pub(crate) fn header(object: u32, length: u32, serial: u32, name: &[u8]) -> Chunk {
-    head(0x8000_0001, object, length, serial, name)
+    head(HEAD, object, length, serial, name)
 }
 
 pub(crate) fn cut(object: u32, length: u32, serial: u32, name: &[u8]) -> Chunk {
-    head(0xC000_0001, object, length, serial, name)
+    head(CUT, object, length, serial, name)
 }
 
 // A stopped store over a chip.
 pub(crate) fn attached<C: Chip + Drop>(heap: Global, chip: C) -> Result<Store<C>, Fail> {
-    match Store::attach(heap, chip) {
-        Ok(store) => Ok(store),
-        Err(_) => Err(Fail::new("no memory")),
-    }
+    Store::attach(heap, chip).map_err(|_| Fail::new("no memory"))
 }
 
-// A bench chip of these rows.
+// A bench chip of these rows. Here and below the two numbers stay apart: a `Sizes` would be spelled out at every call.
 pub(crate) fn chip(
     rows: Vec<Chunk>,
     blocks: u32,
     chunks: u32,
     plan: Plan,
 ) -> Result<BenchChip, Fail> {
-    match BenchChip::new(rows, Sizes { blocks, chunks }, plan) {
-        Ok(chip) => Ok(chip),
-        Err(_) => Err(Fail::new("the rows do not fit")),
-    }
+    let sizes = Sizes { blocks, chunks };
+    BenchChip::new(rows, sizes, plan).map_err(|_| Fail::new("the rows do not fit"))
 }
 
 // A stopped store over a bench chip of these rows.
@@ -112,20 +119,18 @@ pub(crate) fn running(
     rows: &[Chunk],
 ) -> Result<Store<BenchChip>, Fail> {
     let mut store = stopped(heap, blocks, chunks, rows, SURE)?;
-    match store.mount() {
-        Ok(()) => Ok(store),
-        Err(refusal) => Err(Fail::new(format_args!("refused by {}", refusal.number()))),
-    }
+    store.mount()?;
+    Ok(store)
 }
 
 // What mount answers on a bench chip of these rows; on an image chip of them it answers the same.
 pub(crate) fn verdict(
-    rt: &impl Abort,
-    heap: Global,
+    rt: &(impl Abort + AllocGlobal),
     blocks: u8,
     chunks: u8,
     rows: &[Chunk],
 ) -> Result<Result<(), Refusal>, Fail> {
+    let heap = rt.alloc();
     let mut bench = stopped(heap, u32::from(blocks), u32::from(chunks), rows, SURE)?;
     let mut image = attached(heap, chip_in(image_of(heap, blocks, chunks, rows)?)?)?;
     let answer = bench.mount();
@@ -133,7 +138,7 @@ pub(crate) fn verdict(
     Ok(answer)
 }
 
-// The number of a refusal, or 0.
+// The number of a refusal, or 0: the tests name refusals as docs/RULES.md does.
 pub(crate) fn told<T: Drop>(answer: Result<T, Refusal>) -> u32 {
     match answer {
         Ok(_) => 0,

@@ -37,8 +37,5 @@ pub(crate) fn image_of(
 
 // The chip in an image.
 pub(crate) fn chip_in(bytes: Vec<u8>) -> Result<ImageChip, Fail> {
-    match ImageChip::new(bytes) {
-        Ok(chip) => Ok(chip),
-        Err(_) => Err(Fail::new("no image")),
-    }
+    ImageChip::new(bytes).map_err(|_| Fail::new("no image"))
 }

@@ -1,21 +1,12 @@
-use crate::tests::chips::{BLANK, at, raw, tag, verdict};
+use crate::tests::chips::{BLANK, CUT, HEAD, MARK, MOST, at, raw, tag, verdict};
 use flash::Place;
 use scan::Refusal;
-use std::alloc::Global;
 use std::process::Abort;
 use std::test::Fail;
-
-const HEAD: u32 = 0x8000_0001;
-
-const CUT: u32 = 0xC000_0001;
-
-const MARK: u32 = 0xC000_0004;
 
 const LOW: u32 = 0x1000_0101;
 
 const HIGH: u32 = 0x1000_01FF;
-
-const MOST: u32 = 0xFFFF_FFFF;
 
 // The four numbers of a record and the first byte of its data.
 type Case = (u32, u32, u32, u32, u8);
@@ -88,8 +79,7 @@ const BROKEN: [Case; 39] = [
 
 // What mount answers on a chip of three blocks of two that has this record alone.
 fn alone(
-    rt: &impl Abort,
-    heap: Global,
+    rt: &(impl Abort + AllocGlobal),
     case: Case,
     place: Place,
 ) -> Result<Result<(), Refusal>, Fail> {
@@ -98,29 +88,33 @@ fn alone(
     let row = place.block as usize * 2 + place.chunk as usize;
     assert!(rt; row < 6);
     rows[row] = raw(tag(first, second, third, serial), byte);
-    verdict(rt, heap, 3, 2, &rows)
+    verdict(rt, 3, 2, &rows)
+}
+
+// What mount answers on each of these records, at the last place and at the first.
+fn each_alone<F: Fn(Place) -> Result<(), Refusal>>(
+    rt: &(impl Abort + AllocGlobal),
+    cases: &[Case],
+    answer: F,
+) -> Result<(), Fail>
+    requires { F.IsAlwaysCallable answer }
+{
+    for (i, case) in cases.iter().enumerate() {
+        for place in [at(2, 1), at(0, 0)] {
+            assert_eq!(rt; alone(rt, *case, place)?, answer(place), "{}", i);
+        }
+    }
+    Ok(())
 }
 
 // A record alone that keeps the rules is accepted: at most one header is used, and two blocks are blank.
 #[test]
 fn kept(rt: HostRuntime) -> Result<(), Fail> {
-    for (i, case) in KEPT.iter().enumerate() {
-        let last = alone(&rt, rt.alloc(), *case, at(2, 1))?;
-        assert_eq!(rt; last, Ok(()), "{}", i);
-        let first = alone(&rt, rt.alloc(), *case, at(0, 0))?;
-        assert_eq!(rt; first, Ok(()), "{}", i);
-    }
-    Ok(())
+    each_alone(&rt, &KEPT, |_| Ok(()))
 }
 
 // One that breaks a rule is refused by 10 with its place.
 #[test]
 fn broken(rt: HostRuntime) -> Result<(), Fail> {
-    for (i, case) in BROKEN.iter().enumerate() {
-        let last = alone(&rt, rt.alloc(), *case, at(2, 1))?;
-        assert_eq!(rt; last, Err(Refusal::BadRecord(at(2, 1))), "{}", i);
-        let first = alone(&rt, rt.alloc(), *case, at(0, 0))?;
-        assert_eq!(rt; first, Err(Refusal::BadRecord(at(0, 0))), "{}", i);
-    }
-    Ok(())
+    each_alone(&rt, &BROKEN, |place| Err(Refusal::BadRecord(place)))
 }

@@ -3,7 +3,6 @@ use bench::{BenchChip, Plan};
 use flash::{Act, Chunk, Fault};
 use rules::Row;
 use scan::Refusal;
-use std::alloc::Global;
 use std::process::Abort;
 use std::test::Fail;
 use store::Store;
@@ -79,14 +78,13 @@ fn stops(rt: HostRuntime) -> Result<(), Fail> {
 // Formats the full chip by a plan that fails at this block. Then mount answers this, with these files; and a second
 // format goes through.
 fn fails(
-    rt: &impl Abort,
-    heap: Global,
+    rt: &(impl Abort + AllocGlobal),
     plan: Plan,
     block: u32,
     answer: Result<(), Refusal>,
     files: &[Row],
 ) -> Result<(), Fail> {
-    let mut store = stopped(heap, 3, 2, &full(), plan)?;
+    let mut store = stopped(rt.alloc(), 3, 2, &full(), plan)?;
     assert_eq!(rt; store.format(), failed_at(block));
     refuses_all(rt, &store);
     assert_eq!(rt; store.mount(), answer);
@@ -101,22 +99,21 @@ fn fails(
 
 #[test]
 fn planned(rt: HostRuntime) -> Result<(), Fail> {
-    let heap = rt.alloc();
     // block 0 stays as it was: still two files of one name
-    fails(&rt, heap, plan(1, 0, 0), 0, Err(Refusal::SameNames), &[])?;
+    fails(&rt, plan(1, 0, 0), 0, Err(Refusal::SameNames), &[])?;
     // only chunk 1 of 257 is erased
-    fails(&rt, heap, plan(1, 0, 0b10), 0, Err(Refusal::SameNames), &[])?;
+    fails(&rt, plan(1, 0, 0b10), 0, Err(Refusal::SameNames), &[])?;
     // the header of 257 is erased, so its data is of no file and block 0 has load 0
-    fails(&rt, heap, plan(1, 0, 0b01), 0, Ok(()), &[row(258, 1, 7)])?;
+    fails(&rt, plan(1, 0, 0b01), 0, Ok(()), &[row(258, 1, 7)])?;
     // the same with a damaged header
-    fails(&rt, heap, plan(1, 0b01, 0), 0, Ok(()), &[row(258, 1, 7)])?;
+    fails(&rt, plan(1, 0b01, 0), 0, Ok(()), &[row(258, 1, 7)])?;
     // block 0 is blank; of block 1 chunk 0 is damaged and chunk 1 blank
-    fails(&rt, heap, plan(2, 0b01, 0b10), 1, Ok(()), &[row(258, 1, 7)])?;
+    fails(&rt, plan(2, 0b01, 0b10), 1, Ok(()), &[row(258, 1, 7)])?;
     // the header of 258 goes, or its data
-    fails(&rt, heap, plan(3, 0, 0b01), 2, Ok(()), &[])?;
-    fails(&rt, heap, plan(3, 0b10, 0), 2, Ok(()), &[row(258, 0, 0)])?;
+    fails(&rt, plan(3, 0, 0b01), 2, Ok(()), &[])?;
+    fails(&rt, plan(3, 0b10, 0), 2, Ok(()), &[row(258, 0, 0)])?;
     // a chunk that is to be damaged and to take its new content takes it
-    fails(&rt, heap, plan(3, 0b11, 0b11), 2, Ok(()), &[])
+    fails(&rt, plan(3, 0b11, 0b11), 2, Ok(()), &[])
 }
 
 // A blank block is not erased: the second act is at block 2. After the failure the chip is off.

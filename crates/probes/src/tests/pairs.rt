@@ -3,7 +3,6 @@ use crate::tests::chips::{
 };
 use flash::Chunk;
 use scan::Refusal;
-use std::alloc::Global;
 use std::process::Abort;
 use std::test::Fail;
 
@@ -11,14 +10,13 @@ use std::test::Fail;
 
 // What mount answers on three blocks of two. On two blocks of three, and on six of one, it answers 9, whatever the rows.
 fn expect(
-    rt: &impl Abort,
-    heap: Global,
+    rt: &(impl Abort + AllocGlobal),
     rows: &[Chunk; 6],
     answer: Result<(), Refusal>,
 ) -> Result<(), Fail> {
-    assert_eq!(rt; verdict(rt, heap, 3, 2, rows)?, answer);
-    assert_eq!(rt; verdict(rt, heap, 2, 3, rows)?, Err(Refusal::BadSizes));
-    assert_eq!(rt; verdict(rt, heap, 6, 1, rows)?, Err(Refusal::BadSizes));
+    assert_eq!(rt; verdict(rt, 3, 2, rows)?, answer);
+    assert_eq!(rt; verdict(rt, 2, 3, rows)?, Err(Refusal::BadSizes));
+    assert_eq!(rt; verdict(rt, 6, 1, rows)?, Err(Refusal::BadSizes));
     Ok(())
 }
 
@@ -90,7 +88,7 @@ fn ten(rt: HostRuntime) -> Result<(), Fail> {
             at(0, 1),
         ),
     ] {
-        expect(&rt, rt.alloc(), &rows, Err(Refusal::BadRecord(place)))?;
+        expect(&rt, &rows, Err(Refusal::BadRecord(place)))?;
     }
     Ok(())
 }
@@ -123,7 +121,7 @@ fn clashes(rt: HostRuntime) -> Result<(), Fail> {
             at(0, 1),
         ),
     ] {
-        expect(&rt, rt.alloc(), &rows, Err(Refusal::SerialClash(place)))?;
+        expect(&rt, &rows, Err(Refusal::SerialClash(place)))?;
     }
     Ok(())
 }
@@ -151,9 +149,9 @@ fn unlike(rt: HostRuntime) -> Result<(), Fail> {
         last_byte(),
     ] {
         let rows = [part(1, 7), BLANK, BLANK, other, BLANK, BLANK];
-        expect(&rt, rt.alloc(), &rows, Err(Refusal::SerialClash(at(1, 1))))?;
+        expect(&rt, &rows, Err(Refusal::SerialClash(at(1, 1))))?;
         let rows = [other, BLANK, BLANK, other, BLANK, other];
-        expect(&rt, rt.alloc(), &rows, Ok(()))?;
+        expect(&rt, &rows, Ok(()))?;
     }
     Ok(())
 }
@@ -184,7 +182,7 @@ fn eleven(rt: HostRuntime) -> Result<(), Fail> {
             at(0, 1),
         ),
     ] {
-        expect(&rt, rt.alloc(), &rows, Err(Refusal::SerialClash(place)))?;
+        expect(&rt, &rows, Err(Refusal::SerialClash(place)))?;
     }
     Ok(())
 }
@@ -199,13 +197,13 @@ fn twelve(rt: HostRuntime) -> Result<(), Fail> {
         [name, other, part(1, 3), part(2, 4), BLANK, BLANK],
         [name, DAMAGED, other, DAMAGED, part(1, 3), DAMAGED],
     ] {
-        expect(&rt, rt.alloc(), &rows, Err(Refusal::SameNames))?;
+        expect(&rt, &rows, Err(Refusal::SameNames))?;
     }
     let renamed = header(511, 0, 3, b"b");
     let rows = [name, other, renamed, BLANK, BLANK, BLANK];
-    expect(&rt, rt.alloc(), &rows, Ok(()))?;
+    expect(&rt, &rows, Ok(()))?;
     let rows = [name, other, marker(257, 3), BLANK, BLANK, BLANK];
-    expect(&rt, rt.alloc(), &rows, Ok(()))
+    expect(&rt, &rows, Ok(()))
 }
 
 // 13 alone, at its edge, and before 14.
@@ -214,13 +212,13 @@ fn thirteen(rt: HostRuntime) -> Result<(), Fail> {
     let name = header(257, 1000, 1, b"a");
     let (one, two, three) = (part(1, 2), part(2, 3), part(1000, 4));
     let rows = [name, one, two, BLANK, BLANK, BLANK];
-    expect(&rt, rt.alloc(), &rows, Ok(()))?;
+    expect(&rt, &rows, Ok(()))?;
     let rows = [name, one, two, three, BLANK, BLANK];
-    expect(&rt, rt.alloc(), &rows, Err(Refusal::FilesTooLarge))?;
+    expect(&rt, &rows, Err(Refusal::FilesTooLarge))?;
     let rows = [name, one, two, three, part(3, 5), part(4, 6)];
-    expect(&rt, rt.alloc(), &rows, Err(Refusal::FilesTooLarge))?;
+    expect(&rt, &rows, Err(Refusal::FilesTooLarge))?;
     let rows = [name, one, two, part(2, 5), BLANK, BLANK];
-    expect(&rt, rt.alloc(), &rows, Ok(()))
+    expect(&rt, &rows, Ok(()))
 }
 
 // 14 alone; a block that holds nothing wanted, or a copy that stands in another block too, is a way on.
@@ -229,9 +227,9 @@ fn fourteen(rt: HostRuntime) -> Result<(), Fail> {
     let name = header(257, 0, 1, b"a");
     let (one, two) = (part(1, 2), part(2, 3));
     let rows = [name, DAMAGED, one, DAMAGED, two, DAMAGED];
-    expect(&rt, rt.alloc(), &rows, Err(Refusal::NoWayOn))?;
+    expect(&rt, &rows, Err(Refusal::NoWayOn))?;
     let rows = [BLANK, name, one, BLANK, BLANK, two];
-    expect(&rt, rt.alloc(), &rows, Err(Refusal::NoWayOn))?;
+    expect(&rt, &rows, Err(Refusal::NoWayOn))?;
     for (last, answer) in [
         (two, Err(Refusal::NoWayOn)),
         (one, Ok(())),
@@ -239,7 +237,7 @@ fn fourteen(rt: HostRuntime) -> Result<(), Fail> {
         (marker(258, 9), Ok(())),
     ] {
         let rows = [name, DAMAGED, one, DAMAGED, BLANK, last];
-        expect(&rt, rt.alloc(), &rows, answer)?;
+        expect(&rt, &rows, answer)?;
     }
     Ok(())
 }

@@ -1,4 +1,4 @@
-use crate::tests::chips::{attached, refuses_all, row, told};
+use crate::tests::chips::{CUT, HEAD, MARK, MOST, attached, refuses_all, row, told};
 use crate::tests::codes::chip_in;
 use flash::Tag;
 use image::ImageChip;
@@ -7,14 +7,6 @@ use std::alloc::Global;
 use std::process::Abort;
 use std::test::Fail;
 use store::Store;
-
-const HEAD: u32 = 0x8000_0001;
-
-const CUT: u32 = 0xC000_0001;
-
-const MARK: u32 = 0xC000_0004;
-
-const MOST: u32 = 0xFFFF_FFFF;
 
 // Numbers that look random, the same in every run.
 #[derive(Drop)]
@@ -141,56 +133,54 @@ fn image(heap: Global, random: &mut Random) -> Result<Vec<u8>, Fail> {
 
 // What is said of one file agrees: size, read and find with its row and its name, and the size with the length.
 fn file_agrees(
-    rt: &impl Abort,
-    heap: Global,
+    rt: &(impl Abort + AllocGlobal),
     store: &Store<ImageChip>,
     file: Row,
 ) -> Result<(), Fail> {
     let size = file.size as usize;
     assert_eq!(rt; store.size(file.object)?, file.size);
-    let mut buffer = vec![in heap; 0xEEu8; size + 1]?;
+    let mut buffer = vec![in rt.alloc(); 0xEEu8; size + 1]?;
     assert_eq!(rt; store.read(file.object, 0, &mut buffer)?, size);
     assert_eq!(rt; buffer.last().copied(), Some(0xEE));
     let name = store.name(file.object)?;
     assert_eq!(rt; store.find(name)?, Some(file.object));
-    assert_eq!(rt; file.length as usize, (size + 2047) / 2048);
+    assert_eq!(rt; file.length as usize, size.div_ceil(2048));
     Ok(())
 }
 
+// There is no file of this object.
+fn is_absent(rt: &impl Abort, store: &Store<ImageChip>, object: u32) {
+    let answers = [
+        told(store.size(object)),
+        told(store.name(object)),
+        told(store.read(object, 0, &mut [])),
+    ];
+    assert_eq!(rt; answers, [20; 3]);
+}
+
 // Every object is a file that list has, in its turn, or is refused by 20.
-fn all_agree(rt: &impl Abort, heap: Global, store: &Store<ImageChip>) -> Result<(), Fail> {
+fn all_agree(rt: &(impl Abort + AllocGlobal), store: &Store<ImageChip>) -> Result<(), Fail> {
     let mut rows = [row(0, 0, 0); 6];
     let count = store.list(&mut rows)?;
     assert!(rt; count <= 6);
-    let mut listed = rows[0..count].iter();
-    let mut next = listed.next();
+    let mut listed = rows[0..count].iter().peekable();
     for object in 257..512 {
-        match next {
-            Some(file) if file.object == object => {
-                file_agrees(rt, heap, store, *file)?;
-                next = listed.next();
-            }
-            _ => assert_eq!(rt;
-                [
-                    told(store.size(object)),
-                    told(store.name(object)),
-                    told(store.read(object, 0, &mut [])),
-                ],
-                [20; 3]
-            ),
+        match listed.next_if(|file| file.object == object) {
+            Some(file) => file_agrees(rt, store, *file)?,
+            None => is_absent(rt, store, object),
         }
     }
-    assert!(rt; next.is_none());
+    assert!(rt; listed.next().is_none());
     assert_eq!(rt; store.count_all()?.files, count);
     Ok(())
 }
 
 // Mounts an image, and answers the verdict's number.
-fn probe(rt: &impl Abort, heap: Global, bytes: Vec<u8>) -> Result<u32, Fail> {
-    let mut store = attached(heap, chip_in(bytes)?)?;
+fn probe(rt: &(impl Abort + AllocGlobal), bytes: Vec<u8>) -> Result<u32, Fail> {
+    let mut store = attached(rt.alloc(), chip_in(bytes)?)?;
     let number = told(store.mount());
     if number == 0 {
-        all_agree(rt, heap, &store)?;
+        all_agree(rt, &store)?;
     } else {
         refuses_all(rt, &store);
     }
@@ -204,7 +194,7 @@ fn many(rt: HostRuntime) -> Result<(), Fail> {
     let mut seen = [0u32; 15];
     for _ in 0..600 {
         let bytes = image(rt.alloc(), &mut random)?;
-        let number = probe(&rt, rt.alloc(), bytes)? as usize;
+        let number = probe(&rt, bytes)? as usize;
         assert!(rt; number < 15);
         seen[number] = seen[number].saturating_add(1);
     }
