@@ -1,8 +1,10 @@
--- What one turn of a loop over the looks computes. Only private functions cite these. Assumes nothing.
-use Rattle.std.specs.Prelude.{ℕ, Bool, false, cond, Some, None, Option, nat_lt}
+-- What one step of a search through the looks computes. Only private functions cite these. Assumes nothing.
+use Rattle.std.specs.Prelude.{ℕ, Bool, false, Option}
+use Rattle.std.specs.Option.{option_map}
 use Rattle.flash.specs.declared.chunks.Tag.{Tag}
 use Rattle.flash.specs.declared.chunks.Look.{Look}
 use Rattle.flash.specs.declared.chunks.Look.TheVariants.{Blank, Damaged, Record as record_l}
+use Rattle.flash.specs.Chunks.{tag_in}
 use Rattle.tags.specs.declared.finds.Found.{Found}
 
 -- a look tells of a record that passes the test
@@ -17,13 +19,6 @@ number_in f Blank = 0
 number_in f Damaged = 0
 number_in f (record_l t) = f t
 
--- a record that is newer than the best so far takes its place
-abbrev pub better_of : Option Found → ℕ → Tag → Option Found
-better_of None k t = Some (record { place = k; tag = t })
-better_of (Some f) k t = cond (nat_lt f.tag.serial t.serial) (Some (record { place = k; tag = t })) (Some f)
-
--- the best so far, with one look more
-abbrev pub better : (Tag → Bool) → Option Found → ℕ → Look → Option Found
-better p best k Blank = best
-better p best k Damaged = best
-better p best k (record_l t) = cond (p t) (better_of best k t) best
+-- the record that a look at place k tells of
+abbrev pub found_in : ℕ → Look → Option Found
+found_in k x = option_map (λ t. record { place = k; tag = t }) (tag_in x)
