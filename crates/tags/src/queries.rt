@@ -1,15 +1,15 @@
 ghost use Rattle.std.specs.Prelude.{◌≡◌, ℕ, Bool};
 ghost use Rattle.std.specs.Iterator.{ActsAs};
-ghost use Rattle.flash.specs.declared.chunks.Tag.{Tag};
+ghost use Rattle.flash.specs.declared.chunks.Record.{Record};
 ghost use Rattle.rules.specs.Lists.{any, largest};
-ghost use Rattle.tags.specs.Bare.{records};
+ghost use Rattle.tags.specs.Bare.{bare_tag, records};
 
 use flash::{Look, Tag};
 
 // Whether some record passes the test.
 pub fn any<F: Fn(Tag) -> bool>(looks: &[Look], test: F) -> bool
     requires { F.IsAlwaysCallable test }
-    ensures { (p : Tag → Bool) → ActsAs F.FnMut test p → result ≡ any (λ x. p x.tag) (records looks.now) }
+    ensures { (p : Record → Bool) → ActsAs F.FnMut test (λ t. p (bare_tag t)) → result ≡ any p (records looks.now) }
 {
     looks.iter().filter_map(Look::tag).any(test)
 }
@@ -17,7 +17,7 @@ pub fn any<F: Fn(Tag) -> bool>(looks: &[Look], test: F) -> bool
 // The largest number that a record has, or 0.
 pub fn largest<F: Fn(Tag) -> u32>(looks: &[Look], number: F) -> u32
     requires { F.IsAlwaysCallable number }
-    ensures { (f : Tag → ℕ) → ActsAs F.FnMut number f → result ≡ largest (λ x. f x.tag) (records looks.now) }
+    ensures { (f : Record → ℕ) → ActsAs F.FnMut number (λ t. f (bare_tag t)) → result ≡ largest f (records looks.now) }
 {
     looks
         .iter()
