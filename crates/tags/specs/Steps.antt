@@ -1,23 +1,9 @@
 -- What one step of a search through the looks computes. Only private functions cite these. Assumes nothing.
-use Rattle.std.specs.Prelude.{ℕ, Bool, false, cond, Option, nat_lt}
+use Rattle.std.specs.Prelude.{ℕ, cond, Option, nat_lt}
 use Rattle.std.specs.Option.{option_map}
-use Rattle.flash.specs.declared.chunks.Tag.{Tag}
 use Rattle.flash.specs.declared.chunks.Look.{Look}
-use Rattle.flash.specs.declared.chunks.Look.TheVariants.{Blank, Damaged, Record as record_l}
 use Rattle.flash.specs.Chunks.{tag_in}
 use Rattle.tags.specs.declared.finds.Found.{Found}
-
--- a look tells of a record that passes the test
-abbrev pub passes_in : (Tag → Bool) → Look → Bool
-passes_in p Blank = false
-passes_in p Damaged = false
-passes_in p (record_l t) = p t
-
--- a number of the record that a look tells of, or 0
-abbrev pub number_in : (Tag → ℕ) → Look → ℕ
-number_in f Blank = 0
-number_in f Damaged = 0
-number_in f (record_l t) = f t
 
 -- the record that a look at place k tells of
 abbrev pub found_in : ℕ → Look → Option Found
