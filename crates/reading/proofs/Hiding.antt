@@ -1,41 +1,38 @@
 -- What hides the chunks of an object, by chunk number: how the numbers are found, and that they tell which data records are hidden. Assumes nothing.
-use Rattle.std.proofs.Common.{◌≡◌, ℕ, zero, suc, ◌+◌, ◌<◌, ◌≤◌, max, Bool, true, false, cond, eqb, ltb, ◌⊎◌, List, length, get_or, drop, set, replicate, Some, None, Option, sym, refl, ap, ◌∙◌, subst, inl, inr, add-one, arith}
-use Rattle.std.proofs.lemmas.List.{get_or-set_same, get_or-set_other, set_past, get_or-replicate, length-replicate}
+use Rattle.std.proofs.Common.{◌≡◌, ℕ, zero, suc, ◌+◌, ◌<◌, ◌≤◌, max, Bool, true, false, cond, eqb, ltb, ◌⊎◌, List, [], ◌∷◌, ◌++◌, length, get_or, set, replicate, Some, None, Option, sym, refl, ap, ◌∙◌, subst, inl, inr, add-one, arith}
+use Rattle.std.proofs.lemmas.List.{get_or-set_same, get_or-set_other, get_or-replicate}
+use Rattle.std.proofs.lemmas.List.Sums.{fold_push}
+use Rattle.std.specs.List.{filter_map, fold}
 use Rattle.std.proofs.lemmas.Bool.{both_ways, cases_eq, cases_lt, cond-true, cond-false, eqb-true, eq-eqb, ne_eqb, lt-ltb, le-ltb}
 use Rattle.flash.specs.declared.chunks.Tag.{Tag}
 use Rattle.flash.specs.declared.chunks.Record.{Record}
 use Rattle.flash.specs.declared.chunks.Look.{Look}
-use Rattle.flash.specs.declared.chunks.Look.TheVariants.{Blank}
+use Rattle.flash.specs.Chunks.{tag_in}
 use Rattle.rules.specs.declared.kinds.Kind.{Kind}
 use Rattle.rules.specs.declared.kinds.Kind.TheVariants.{Data as data_k, Header as header_k, CutHeader as cut_k, Marker as marker_k, Other as other_k}
-use Rattle.rules.specs.Lists.{Among}
+use Rattle.rules.specs.Lists.{Among, largest}
 use Rattle.rules.specs.Records.{kind, kind_by, object, is_data, is_cut, is_marker}
 use Rattle.rules.specs.Reading.{hidden}
 use Rattle.rules.proofs.Adding.{data-number}
 use Rattle.rules.proofs.Lists.{largest-least, largest-most}
 use Rattle.rules.proofs.Views.{Hides, hidden-view, hidden-from}
 use Rattle.tags.specs.Bare.{records}
-use Rattle.tags.specs.Steps.{number_in}
-use Rattle.tags.proofs.Scans.{Largest, largest-more, largest-all}
-use Rattle.reading.specs.Hiders.{above_by, serial_at, hider_at, raised, Raised, most_of, Carried}
+use Rattle.tags.proofs.Scans.{largest-tags}
+use Rattle.reading.specs.Hiders.{above_by, serial_at, hider_at, Noted, most_of, CarriedOn}
 
--- numbers raised, past the end and from 0
-pub raised-past : (xs : List ℕ) (k n : ℕ) → length xs ≤ k → xs ≡ raised xs k n
-raised-past xs k n h = sym (set_past xs k (max (get_or xs k 0) n) h)
+-- the numbers noted so far, by the tags of the records
+module _ (o : ℕ) where
+  abbrev Top : ℕ → List Tag → ℕ
+  Top k ts = fold (λ n t. max n (hider_at o k t)) 0 ts
 
-pub raised-zeros : (f : ℕ → ℕ) (n : ℕ) (xs : List ℕ) → Raised f (replicate n 0) xs → (k : ℕ) → k < n → get_or xs k 0 ≡ f k
-raised-zeros f n xs e k h = omega (arith, e k (omega (arith, length-replicate {A = ℕ} n 0)), get_or-replicate {A = ℕ} n k 0 0 h)
+  abbrev pub Noting : List Tag → List ℕ → Type 0
+  Noting ts now = (k : ℕ) → k < 1001 → get_or now k 0 ≡ Top k ts
 
--- what is noted so far, with what is still to come
-module _ (f : ℕ → Tag → ℕ) (xs : List Look) (start : List ℕ) where
-  abbrev pub Noting : ℕ → List ℕ → Type 0
-  Noting i now = (k : ℕ) → k < length start → max (get_or now k 0) (Largest (f k) (drop i xs)) ≡ max (get_or start k 0) (Largest (f k) xs)
+  pub noting-none : Noting [] (replicate 1001 0)
+  noting-none k h = get_or-replicate {A = ℕ} 1001 k 0 0 h
 
-  pub noting-more : (i : ℕ) (now next : List ℕ) → i < length xs → length now ≡ length start → Raised (λ k. number_in (f k) (get_or xs i Blank)) now next → Noting i now → Noting (i + 1) next
-  noting-more i now next h l e b = λ k g. largest-more (f k) xs i (get_or now k 0) (get_or next k 0) h (e k (omega arith)) ∙ b k g
-
-  pub noting-all : (i : ℕ) (now : List ℕ) → length xs ≤ i → Noting i now → Raised (λ k. Largest (f k) xs) start now
-  noting-all i now h b = λ k g. omega (arith, b k g, largest-all (f k) xs i h)
+  pub noting-more : (ts : List Tag) (t : Tag) (now next : List ℕ) → Noted (λ k. hider_at o k t) now next → Noting ts now → Noting (ts ++ t ∷ []) next
+  noting-more ts t now next e b k h = e k h ∙ ap (λ (n : ℕ). max n (hider_at o k t)) (b k h) ∙ sym (fold_push (λ n s. max n (hider_at o k s)) 0 ts t)
 
 -- the numbers carried on so far
 pub record Carrying (old : List ℕ) (i most : ℕ) (new : List ℕ) : Type 0 where
@@ -46,18 +43,18 @@ pub record Carrying (old : List ℕ) (i most : ℕ) (new : List ℕ) : Type 0 wh
 pub carrying-none : (old : List ℕ) → Carrying old 0 0 old
 carrying-none old = record { top = refl; done = λ k h. absurd (omega (arith, h)); left = λ k h. refl }
 
-pub carrying-more : (old : List ℕ) (i most next : ℕ) (new : List ℕ) → i < length new → next ≡ max most (get_or new i 0) → Carrying old i most new → Carrying old (i + 1) next (set new i most)
-carrying-more old i most next new h e b =
+pub carrying-more : (old : List ℕ) (i most next put : ℕ) (new : List ℕ) → i < length new → next ≡ max most (get_or new i 0) → put ≡ most → Carrying old i most new → Carrying old (i + 1) next (set new i put)
+carrying-more old i most next put new h e p b =
     record {
       top = omega (arith, e, b.top, b.left i (omega arith), ap (most_of old) (add-one i));
       done = λ k l. elim (cases_eq k i) [
-        | inl d ↦ subst (λ (z : ℕ). get_or (set new i most) z 0 ≡ most_of old z) (sym d) (get_or-set_same new i most 0 h ∙ b.top)
-        | inr d ↦ get_or-set_other new i k most 0 d ∙ b.done k (omega (arith, l, d))
+        | inl d ↦ subst (λ (z : ℕ). get_or (set new i put) z 0 ≡ most_of old z) (sym d) (get_or-set_same new i put 0 h ∙ p ∙ b.top)
+        | inr d ↦ get_or-set_other new i k put 0 d ∙ b.done k (omega (arith, l, d))
       ];
-      left = λ k l. get_or-set_other new i k most 0 (λ d. omega (arith, l, d)) ∙ b.left k (omega (arith, l));
+      left = λ k l. get_or-set_other new i k put 0 (λ d. omega (arith, l, d)) ∙ b.left k (omega (arith, l));
     }
 
-pub carrying-all : (old : List ℕ) (i most : ℕ) (new : List ℕ) → length old ≤ i → Carrying old i most new → Carried old new
+pub carrying-all : (old : List ℕ) (i most : ℕ) (new : List ℕ) → 1001 ≤ i → Carrying old i most new → CarriedOn old new
 carrying-all old i most new h b = λ k l. b.done k (omega (arith, l))
 
 -- the largest of the first n
@@ -121,13 +118,16 @@ module _ (o : ℕ) (r : Record) where
       go false e h' = absurd (omega (arith, h'))
 
 -- so a data record is hidden exactly if its serial is below the one at its number
-module _ (xs : List Look) (o : ℕ) (noted hiders : List ℕ) (long : length noted ≡ 1001) (notes : (k : ℕ) → k < 1001 → get_or noted k 0 ≡ Largest (hider_at o k) xs) (carries : Carried noted hiders) where
+module _ (xs : List Look) (o : ℕ) (noted hiders : List ℕ) (notes : Noting o (filter_map tag_in xs) noted) (carries : CarriedOn noted hiders) where
+  abbrev Largest : (Tag → ℕ) → List Look → ℕ
+  Largest f xs = largest (λ x. f x.tag) (records xs)
+
   module _ (d : Record) (of : object d ≡ o) (isdata : is_data (kind d) ≡ true) where
     at-number : get_or hiders d.tag.first 0 ≡ most_of noted d.tag.first
     at-number = carries d.tag.first (omega (arith, (data-number d isdata).1))
 
     noted-at : (k : ℕ) → k < d.tag.first → get_or noted k 0 ≡ Largest (hider_at o k) xs
-    noted-at k l = notes k (omega (arith, l, (data-number d isdata).1))
+    noted-at k l = notes k (omega (arith, l, (data-number d isdata).1)) ∙ sym (largest-tags (λ r. hider_at o k r.tag) xs)
 
     below-hider : (h : Record) → Among h (records xs) → Hides h d → d.tag.serial < get_or hiders d.tag.first 0
     below-hider h a v =

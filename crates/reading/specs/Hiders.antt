@@ -1,5 +1,5 @@
 -- What hides the chunks of an object, by chunk number: the largest serial of a record that hides there. Only private functions cite these. Assumes nothing.
-use Rattle.std.specs.Prelude.{◌≡◌, ℕ, zero, suc, ◌<◌, max, cond, not, ◌&&◌, List, length, Some, None, Option, ◌==◌, nat_lt, slice_index, slice_set}
+use Rattle.std.specs.Prelude.{◌≡◌, ℕ, zero, suc, ◌<◌, max, cond, not, ◌&&◌, List, Some, None, Option, ◌==◌, nat_lt, slice_index, slice_set}
 use Rattle.flash.specs.declared.chunks.Tag.{Tag}
 use Rattle.flash.specs.declared.chunks.Record.{Record}
 use Rattle.rules.specs.declared.kinds.Kind.{Kind}
@@ -32,18 +32,18 @@ hider_at o k t = serial_at (hides_above o t) k t.serial
 abbrev pub raised : List ℕ → ℕ → ℕ → List ℕ
 raised xs k n = slice_set xs k (max (slice_index xs k) n)
 
--- each number k of a list is raised to f k where it was less
-abbrev pub Raised : (ℕ → ℕ) → List ℕ → List ℕ → Type 0
-Raised f old new = (k : ℕ) → k < length old → slice_index new k ≡ max (slice_index old k) (f k)
+-- each number k of the 1,001 is raised to f k where it was less
+abbrev pub Noted : (ℕ → ℕ) → List ℕ → List ℕ → Type 0
+Noted f old new = (k : ℕ) → k < 1001 → slice_index new k ≡ max (slice_index old k) (f k)
 
 -- the largest of the first n numbers, or 0
 abbrev pub most_of : List ℕ → ℕ → ℕ
 most_of xs zero = 0
 most_of xs (suc n) = max (most_of xs n) (slice_index xs n)
 
--- each number of a list gives way to the largest of those before it
-abbrev pub Carried : List ℕ → List ℕ → Type 0
-Carried old new = (k : ℕ) → k < length old → slice_index new k ≡ most_of old k
+-- each of the 1,001 gives way to the largest of those before it
+abbrev pub CarriedOn : List ℕ → List ℕ → Type 0
+CarriedOn old new = (k : ℕ) → k < 1001 → slice_index new k ≡ most_of old k
 
 -- the chunk number of a data record of the object that is not hidden, or 0
 abbrev pub shown_number : List Record → ℕ → Record → ℕ

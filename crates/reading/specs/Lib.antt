@@ -1,2 +1,3 @@
 pub mod Hiders
 pub mod Sizes
+pub mod Tells

@@ -1,68 +1,101 @@
-ghost use Rattle.std.specs.Prelude.{◌≡◌};
-ghost use Rattle.rules.specs.Lists.{largest};
+ghost use Rattle.std.specs.Prelude.{◌≡◌, nat_lt, slice_index};
 ghost use Rattle.tags.specs.Bare.{records};
-ghost use Rattle.tags.specs.Steps.{number_in};
-ghost use Rattle.reading.specs.Hiders.{hides_above, hider_at, raised, Raised, Carried};
+ghost use Rattle.reading.specs.Hiders.{hides_above, hider_at, raised, Noted, CarriedOn, shown_by};
+ghost use Rattle.reading.specs.Tells.{Tells};
 
 use flash::{Look, Tag};
-use rules::Kind;
+use rules::{Kind, LAST_NUMBER};
+use std::mem;
 use tags::{kind_of, object_of};
 
+const NUMBERS: usize = LAST_NUMBER as usize + 1;
+
 // What hides the chunks of an object, by chunk number: the largest serial of a record that hides there.
-
-// The chunk number above which the record hides chunks of the object.
-fn hides_above(object: u32, tag: &Tag) -> Option<u32>
-    ensures { result ≡ hides_above object tag.now }
-{
-    if object_of(tag) != object {
-        return None;
-    }
-    match kind_of(tag) {
-        Kind::Marker => Some(0),
-        Kind::CutHeader => Some(tag.third),
-        Kind::Data | Kind::Header | Kind::Other => None,
-    }
+#[derive(Drop)]
+pub(crate) struct Hiders {
+    object: u32,
+    serials: [u32; NUMBERS],
 }
 
-// Raises the number at a place where it is less, if there is such a place.
-fn raise(numbers: &mut [u32], place: usize, number: u32)
-    ensures { numbers.new ≡ raised numbers.old place number }
-{
-    if place < numbers.len() {
-        numbers[place] = numbers[place].max(number);
+impl Hiders {
+    // What hides the chunks of the object, among the records that the looks tell of.
+    pub(crate) fn of(object: u32, looks: &[Look]) -> Hiders
+        ensures object { result.object ≡ object }
+        ensures tells { Tells (records looks.now) result }
+    {
+        let mut hiders = Hiders {
+            object,
+            serials: [0; NUMBERS],
+        };
+        for tag in looks.iter().filter_map(Look::tag) {
+            hiders.note(&tag);
+        }
+        hiders.carry();
+        hiders
     }
-}
 
-// Notes the record that a look tells of, at the number above which it hides.
-fn note(hiders: &mut [u32], object: u32, look: &Look)
-    ensures { Raised (λ k. number_in (hider_at object k) look.now) hiders.old hiders.new }
-{
-    let Look::Record(tag) = look else {
-        return;
-    };
-    let Some(above) = hides_above(object, tag) else {
-        return;
-    };
-    raise(hiders, above as usize, tag.serial);
-}
-
-// Notes all that hide chunks of the object.
-pub(crate) fn note_all(hiders: &mut [u32], object: u32, looks: &[Look])
-    ensures { Raised (λ k. largest (λ x. hider_at object k x.tag) (records looks.now)) hiders.old hiders.new }
-{
-    for look in looks {
-        note(hiders, object, look);
+    // The chunk number above which the record hides chunks of the object.
+    fn hides_above(&self, tag: &Tag) -> Option<u32>
+        ensures { result ≡ hides_above self.now.object tag.now }
+    {
+        if object_of(tag) != self.object {
+            return None;
+        }
+        match kind_of(tag) {
+            Kind::Marker => Some(0),
+            Kind::CutHeader => Some(tag.third),
+            Kind::Data | Kind::Header | Kind::Other => None,
+        }
     }
-}
 
-// Carries each on to all higher numbers: a number gets the largest of those noted below it.
-pub(crate) fn carry(hiders: &mut [u32])
-    ensures { Carried hiders.old hiders.new }
-{
-    let mut most = 0u32;
-    for hider in hiders.iter_mut() {
-        let here = *hider;
-        *hider = most;
-        most = most.max(here);
+    // Notes a record at the chunk number above which it hides.
+    fn note(&mut self, tag: &Tag)
+        ensures object { self.new.object ≡ self.old.object }
+        ensures noted { Noted (λ k. hider_at self.old.object k tag.now) self.old.serials self.new.serials }
+    {
+        if let Some(above) = self.hides_above(tag) {
+            self.raise(above as usize, tag.serial);
+        }
+    }
+
+    // Raises the serial at a chunk number where it is less, if there is such a number.
+    fn raise(&mut self, number: usize, serial: u32)
+        ensures object { self.new.object ≡ self.old.object }
+        ensures raised { self.new.serials ≡ raised self.old.serials number serial }
+    {
+        if number < NUMBERS {
+            self.serials[number] = self.serials[number].max(serial);
+        }
+    }
+
+    // Carries each on to all higher numbers: a number gets the largest of those noted below it.
+    fn carry(&mut self)
+        ensures object { self.new.object ≡ self.old.object }
+        ensures carried { CarriedOn self.old.serials self.new.serials }
+    {
+        let mut most = 0;
+        for serial in self.serials.iter_mut() {
+            most = most.max(mem::replace(serial, most));
+        }
+    }
+
+    // Whether what hides at the chunk number of this data record is newer than it.
+    fn hide(&self, tag: &Tag) -> bool
+        ensures { result ≡ nat_lt tag.now.serial (slice_index self.now.serials tag.now.first) }
+    {
+        self.serials
+            .get(tag.first as usize)
+            .is_some_and(|serial| tag.serial < *serial)
+    }
+
+    // The chunk number of a data record of the object that is not hidden, or 0.
+    pub(crate) fn shown_number(&self, tag: &Tag) -> u32
+        ensures { result ≡ shown_by self.now.serials self.now.object tag.now }
+    {
+        if object_of(tag) == self.object && kind_of(tag).is_data() && !self.hide(tag) {
+            tag.first
+        } else {
+            0
+        }
     }
 }

@@ -1,80 +1,44 @@
-ghost use Rattle.std.specs.Prelude.{◌≡◌, if◌then◌else◌, Some, None};
-ghost use Rattle.rules.specs.Lists.{is_there};
-ghost use Rattle.rules.specs.Records.{kind_by, is_header};
+ghost use Rattle.std.specs.Prelude.{◌≡◌};
 ghost use Rattle.rules.specs.Reading.{header, present, hidden, chunk};
 ghost use Rattle.tags.specs.Bare.{bare_tag, records};
 ghost use Rattle.tags.specs.Finds.{record_of, InPlace};
 
 use flash::{Look, Tag};
-use rules::Kind;
-use tags::criteria::{DataOf, HeadOf, HiderOf};
+use tags::tags::{data_of, head_of, hides};
 use tags::{Found, any, kind_of, newest};
 
 // The reading rule.
 
-// A header of either kind.
-fn is_header(kind: Kind) -> bool
-    ensures { result ≡ is_header kind }
-{
-    matches!(kind, Kind::Header | Kind::CutHeader)
-}
-
-// A head that is a header, and not a marker.
-fn header_only(head: Found) -> Option<Found>
-    ensures { result ≡ (if is_header (kind_by head.tag.first) then Some head else None) }
-{
-    if is_header(kind_of(&head.tag)) {
-        Some(head)
-    } else {
-        None
-    }
-}
-
-// The newest header of a present file.
+// The newest header of a present file: the newest head, if that is a header and not a marker.
+#[tactic(auto, unfolding(rules::specs::Reading::header, rules::specs::Records::kind))]
 pub fn header(looks: &[Look], object: u32) -> Option<Found>
     ensures value { record_of result ≡ header (records looks.now) object }
     ensures place { InPlace looks.now result }
 {
-    let head = newest(looks, &HeadOf { object })?;
-    header_only(head)
-}
-
-fn is_found(found: &Option<Found>) -> bool
-    ensures { result ≡ is_there (record_of found.now) }
-{
-    found.is_some()
+    newest(looks, |tag| head_of(object, &tag)).filter(|head| kind_of(&head.tag).is_header())
 }
 
 // Whether the object is a present file.
+#[tactic(auto, unfolding(rules::specs::Reading::present))]
 pub fn present(looks: &[Look], object: u32) -> bool
     ensures { result ≡ present (records looks.now) object }
 {
-    is_found(&header(looks, object))
+    header(looks, object).is_some()
 }
 
 // Whether some record hides this one.
+#[tactic(auto, unfolding(rules::specs::Reading::hidden))]
 pub fn hidden(looks: &[Look], tag: &Tag) -> bool
     ensures { result ≡ hidden (records looks.now) (bare_tag tag.now) }
 {
-    any(looks, &HiderOf(*tag))
+    any(looks, |other| hides(&other, tag))
 }
 
-// A data record, unless it is hidden.
-fn unhidden(looks: &[Look], found: Found) -> Option<Found>
-    ensures { result ≡ (if hidden (records looks.now) (bare_tag found.tag) then None else Some found) }
-{
-    if hidden(looks, &found.tag) {
-        None
-    } else {
-        Some(found)
-    }
-}
-
-// A chunk of a file, unless it is missing.
+// A chunk of a file, unless it is missing: the newest data record of its number, unless that is hidden.
+#[tactic(auto, unfolding(rules::specs::Reading::chunk, rules::specs::Reading::hidden))]
 pub fn chunk(looks: &[Look], object: u32, number: u32) -> Option<Found>
     ensures value { record_of result ≡ chunk (records looks.now) object number }
     ensures place { InPlace looks.now result }
 {
-    let found = newest(looks, &DataOf { object, number })?;
-    unhidden(looks, found)
+    newest(looks, |tag| data_of(object, number, &tag)).filter(|found| !hidden(looks, &found.tag))
 }

@@ -1,8 +1,8 @@
 -- Each serial once, at its first place: by going through the records with those that came before. Assumes nothing.
-use Rattle.std.proofs.Common.{◌≡◌, ℕ, ◌+◌, ◌-◌, ◌<◌, ◌≤◌, Bool, true, false, cond, not, ◌&&◌, ◌||◌, eqb, ◌⊎◌, List, [], ◌∷◌, ◌++◌, length, get_or, take, drop, sym, refl, ap, ◌∙◌, inl, inr, append-nil, arith}
-use Rattle.std.proofs.lemmas.List.{take_more, drop_more, at_drop_all}
+use Rattle.std.proofs.Common.{◌≡◌, ℕ, ◌+◌, Bool, true, false, cond, not, ◌&&◌, ◌||◌, eqb, List, [], ◌∷◌, ◌++◌, length, take, sym, refl, ap, ◌∙◌, append_assoc, append-nil, arith}
+use Rattle.std.proofs.lemmas.List.{take_at, length_push}
+use Rattle.std.specs.List.{filter, enumerate_from}
 use Rattle.std.proofs.lemmas.Bool.Decides.{nat_tests}
-use Rattle.flash.specs.declared.chunks.Tag.{Tag}
 use Rattle.flash.specs.declared.chunks.Record.{Record}
 use Rattle.flash.specs.declared.chunks.Look.{Look}
 use Rattle.flash.specs.declared.chunks.Look.TheVariants.{Blank, Damaged, Record as record_l}
@@ -10,7 +10,7 @@ use Rattle.rules.specs.Lists.{any, keep, cons_if}
 use Rattle.rules.specs.Reading.{once}
 use Rattle.tags.specs.Bare.{bare_tag, records}
 use Rattle.table.specs.Loads.{fresh}
-use Rattle.table.specs.Steps.{first_in}
+use Rattle.table.specs.Steps.{first_of}
 
 -- filters
 module _ {A : Type 0} where
@@ -88,51 +88,42 @@ records-append (Blank ∷ xs) ys = records-append xs ys
 records-append (Damaged ∷ xs) ys = records-append xs ys
 records-append (record_l t ∷ xs) ys = ap (λ (z : List Record). bare_tag t ∷ z) (records-append xs ys)
 
-module _ (p : Tag → Bool) where
+module _ (p : Record → Bool) where
   abbrev pub Onces : List Look → List Look → ℕ
-  Onces seen xs = length (keep (λ x. p x.tag) (firsts (records seen) (records xs)))
+  Onces seen xs = length (keep p (firsts (records seen) (records xs)))
 
-  onces-cons : (seen : List Look) (x : Look) (xs : List Look) → Onces seen (x ∷ xs) ≡ cond (first_in p (records seen) x) 1 0 + Onces (seen ++ x ∷ []) xs
-  onces-cons seen Blank xs =
-      ap (λ (z : List Record). length (keep (λ x. p x.tag) (firsts z (records xs)))) (sym (append-nil (records seen)) ∙ sym (records-append seen (Blank ∷ [])))
-      ∙ zero-first (Onces (seen ++ Blank ∷ []) xs)
+  -- a look of no record adds none
+  none : (seen : List Look) (x : Look) (xs : List Look) → records (x ∷ []) ≡ [] → Onces seen xs ≡ 0 + Onces (seen ++ x ∷ []) xs
+  none seen x xs e =
+      ap (λ (z : List Record). length (keep p (firsts z (records xs)))) (sym (append-nil (records seen)) ∙ ap (λ (z : List Record). records seen ++ z) (sym e) ∙ sym (records-append seen (x ∷ [])))
+      ∙ zero-first (Onces (seen ++ x ∷ []) xs)
     where
       zero-first : (n : ℕ) → n ≡ 0 + n
       zero-first n = omega arith
-  onces-cons seen Damaged xs =
-      ap (λ (z : List Record). length (keep (λ x. p x.tag) (firsts z (records xs)))) (sym (append-nil (records seen)) ∙ sym (records-append seen (Damaged ∷ [])))
-      ∙ zero-first (Onces (seen ++ Damaged ∷ []) xs)
-    where
-      zero-first : (n : ℕ) → n ≡ 0 + n
-      zero-first n = omega arith
+
+  onces-cons : (seen : List Look) (x : Look) (xs : List Look) → Onces seen (x ∷ xs) ≡ cond (first_of p (records seen) x) 1 0 + Onces (seen ++ x ∷ []) xs
+  onces-cons seen Blank xs = none seen Blank xs refl
+  onces-cons seen Damaged xs = none seen Damaged xs refl
   onces-cons seen (record_l t) xs =
-      length-cons_if (λ x. p x.tag) (fresh (records seen) (bare_tag t)) (bare_tag t) (firsts (records seen ++ bare_tag t ∷ []) (records xs))
-      ∙ ap (λ (z : List Record). cond (p t && fresh (records seen) (bare_tag t)) 1 0 + length (keep (λ x. p x.tag) (firsts z (records xs)))) (sym (records-append seen (record_l t ∷ [])))
+      length-cons_if p (fresh (records seen) (bare_tag t)) (bare_tag t) (firsts (records seen ++ bare_tag t ∷ []) (records xs))
+      ∙ ap (λ (z : List Record). cond (first_of p (records seen) (record_l t)) 1 0 + length (keep p (firsts z (records xs)))) (sym (records-append seen (record_l t ∷ [])))
 
-  pub onces-more : (xs : List Look) (i : ℕ) → i < length xs → Onces (take i xs) (drop i xs) ≡ cond (first_in p (records (take i xs)) (get_or xs i Blank)) 1 0 + Onces (take (i + 1) xs) (drop (i + 1) xs)
-  onces-more xs i h =
-      ap (Onces (take i xs)) (drop_more xs i Blank h)
-      ∙ onces-cons (take i xs) (get_or xs i Blank) (drop (i + 1) xs)
-      ∙ ap (λ (z : List Look). cond (first_in p (records (take i xs)) (get_or xs i Blank)) 1 0 + Onces z (drop (i + 1) xs)) (sym (take_more xs i Blank h))
+  -- so they are as many as the places whose looks tell of a first one
+  module _ (xs : List Look) where
+    abbrev pub first_at : ℕ × Look → Bool
+    first_at x = first_of p (records (take x.0 xs)) x.1
 
-  pub onces-start : (xs : List Look) → Onces [] xs ≡ length (keep (λ x. p x.tag) (once (records xs)))
-  onces-start xs = ap (λ (z : List Record). length (keep (λ x. p x.tag) z)) (sym (once-firsts (records xs)))
+    one-more : (b : Bool) (x : ℕ × Look) (ys : List (ℕ × Look)) → length (cond b (x ∷ ys) ys) ≡ cond b 1 0 + length ys
+    one-more true x ys = omega arith
+    one-more false x ys = omega arith
 
-  -- one turn of the count, and its end
-  pub count-step : (xs : List Look) (i n next total : ℕ) (b : Bool) → i < length xs → b ≡ first_in p (records (take (i - 0) xs)) (get_or xs i Blank)
-      → ((b ≡ true) × (next ≡ n + 1)) ⊎ ((b ≡ false) × (next ≡ n))
-      → (n ≤ i) × (n + Onces (take i xs) (drop i xs) ≡ total) → (next ≤ i + 1) × (next + Onces (take (i + 1) xs) (drop (i + 1) xs) ≡ total)
-  count-step xs i n next total b h e way inv =
-      let z : i - 0 ≡ i = omega arith in
-      let s : Onces (take i xs) (drop i xs) ≡ cond b 1 0 + Onces (take (i + 1) xs) (drop (i + 1) xs) =
-      onces-more xs i h ∙ ap (λ (a : Bool). cond a 1 0 + Onces (take (i + 1) xs) (drop (i + 1) xs)) (sym (e ∙ ap (λ (k : ℕ). first_in p (records (take k xs)) (get_or xs i Blank)) z)) in
-      elim way [
-        | inl w ↦ (omega (arith, inv.0, w.1), omega (arith, inv.1, w.1, s, ap (λ (a : Bool). cond a 1 0 + Onces (take (i + 1) xs) (drop (i + 1) xs)) w.0))
-        | inr w ↦ (omega (arith, inv.0, w.1), omega (arith, inv.1, w.1, s, ap (λ (a : Bool). cond a 1 0 + Onces (take (i + 1) xs) (drop (i + 1) xs)) w.0))
-      ]
+    firsts-from : (seen rest : List Look) (n : ℕ) → length seen ≡ n → xs ≡ seen ++ rest → length (filter first_at (enumerate_from n rest)) ≡ Onces seen rest
+    firsts-from seen [] n l e = refl
+    firsts-from seen (x ∷ rest) n l e =
+        one-more (first_at (n, x)) (n, x) (filter first_at (enumerate_from (n + 1) rest))
+        ∙ ap (λ (z : List Look). cond (first_of p (records z) x) 1 0 + length (filter first_at (enumerate_from (n + 1) rest))) (ap (take n) e ∙ take_at seen (x ∷ rest) n l)
+        ∙ ap (λ (k : ℕ). cond (first_of p (records seen) x) 1 0 + k) (firsts-from (seen ++ x ∷ []) rest (n + 1) (omega (arith, l, length_push seen x)) (e ∙ sym (append_assoc seen (x ∷ []) rest)))
+        ∙ sym (onces-cons seen x rest)
 
-  pub count-end : (xs : List Look) (i n : ℕ) → length xs ≤ i → n + Onces (take i xs) (drop i xs) ≡ Onces [] xs → n ≡ length (keep (λ x. p x.tag) (once (records xs)))
-  count-end xs i n h e =
-      let z : Onces (take i xs) (drop i xs) ≡ 0 = at_drop_all (Onces (take i xs)) xs i h in
-      let q : n ≡ Onces [] xs = omega arith in
-      q ∙ onces-start xs
+    pub firsts-count : length (filter first_at (enumerate_from 0 xs)) ≡ length (keep p (once (records xs)))
+    firsts-count = firsts-from [] xs 0 refl refl ∙ ap (λ (z : List Record). length (keep p z)) (sym (once-firsts (records xs)))

@@ -1,5 +1,5 @@
 -- Row b × p + c of a flat table is chunk c of block b; and what stands before and after a block. Assumes nothing.
-use Rattle.std.proofs.Common.{◌≡◌, ℕ, zero, suc, ◌+◌, ◌-◌, ◌*◌, ◌<◌, ◌≤◌, List, [], ◌∷◌, ◌++◌, length, get_or, take, drop, set, sym, refl, ap, ◌∙◌, append_assoc, arith, length-drop, take-append-drop, get_or-drop, take_all, get_or-take, drop-drop, drop-set-lt, take-add}
+use Rattle.std.proofs.Common.{◌≡◌, ℕ, zero, suc, ◌+◌, ◌*◌, ◌<◌, ◌≤◌, List, [], ◌∷◌, ◌++◌, length, get_or, take, drop, set, sym, refl, ap, ◌∙◌, append_assoc, arith, length-drop, take-append-drop, get_or-drop, get_or-take, drop-drop, drop-set-lt, take-add}
 use lib.Seq.{take-set-le, take-set-lt, drop-set-add}
 use Rattle.flash.specs.declared.chunks.Record.{Record}
 use Rattle.flash.specs.declared.chunks.Chunk.{Chunk}
@@ -66,14 +66,3 @@ module _ (p : ℕ) where
       (sym (records_of-append (take p rows) (take (b * p) (drop p rows))) ∙ ap records_of (sym (take-add p (b * p) rows) ∙ ap (λ (k : ℕ). take k rows) (let e : p + b * p ≡ suc b * p = omega arith in e)))
       ∙ ap (λ (z : List Chunk). records_of (take (suc b * p) rows) ++ records_of z)
       (drop-drop (b * p + p) p rows ∙ ap (λ (k : ℕ). drop k rows) (let e : p + (b * p + p) ≡ suc b * p + p = omega arith in e))
-
--- the parts of a table as code cuts them
-module _ {A : Type 0} (p b start end : ℕ) (rows : List A) (s : start ≡ b * p) (e : end ≡ start + p) where
-  pub cut-before : take (start - 0) rows ≡ take (b * p) rows
-  cut-before = ap (λ (k : ℕ). take k rows) (omega arith)
-
-  pub cut-within : take (end - start) (drop start rows) ≡ take p (drop (b * p) rows)
-  cut-within = ap (λ (k : ℕ). take k (drop start rows)) (let q : end - start ≡ p = omega arith in q) ∙ ap (λ (k : ℕ). take p (drop k rows)) s
-
-  pub cut-after : take (length rows - end) (drop end rows) ≡ drop (b * p + p) rows
-  cut-after = take_all (length rows - end) (drop end rows) (omega (arith, length-drop end rows)) ∙ ap (λ (k : ℕ). drop k rows) (omega arith)

@@ -4,19 +4,15 @@ ghost use Rattle.table.specs.Laws.{BareReadsAlike, SizesAlike, BareLoadsAlike, L
 // nothing else to do.
 
 // With the data left out, the rules say the same of records, of sizes and of the loads of blocks.
-pub fn bare_reads_alike() -> u8
+pub fn bare_reads_alike()
     ensures reads { BareReadsAlike }
     ensures sizes { SizesAlike }
     ensures loads { BareLoadsAlike }
-{
-    0
-}
+{}
 
 // A table with a look at each chunk tells of the chip's blocks with the data left out, and the rows that make the load
 // of a block are its load list.
-pub fn table_mirrors() -> u8
+pub fn table_mirrors()
     ensures blocks { TableMirrors }
     ensures rows { LoadByRows }
-{
-    0
-}
+{}

@@ -1,48 +1,30 @@
--- One turn of a loop over looks: what it does to a test over all the records. Assumes nothing.
-use Rattle.std.proofs.Common.{◌≡◌, ℕ, ◌+◌, ◌<◌, ◌≤◌, max, Bool, true, false, ◌||◌, List, ◌∷◌, length, get_or, drop, refl, ap, ◌∙◌, arith}
-use Rattle.std.proofs.lemmas.List.{at_drop_more, at_drop_all}
+-- The records that looks tell of have the tags that the looks tell. Assumes nothing.
+use Rattle.std.proofs.Common.{◌≡◌, ℕ, max, Bool, ◌||◌, List, [], ◌∷◌, sym, refl, ap, ◌∙◌, arith}
+use Rattle.std.specs.List.{filter_map, list_any, fold}
 use Rattle.flash.specs.declared.chunks.Tag.{Tag}
+use Rattle.flash.specs.declared.chunks.Record.{Record}
 use Rattle.flash.specs.declared.chunks.Look.{Look}
 use Rattle.flash.specs.declared.chunks.Look.TheVariants.{Blank, Damaged, Record as record_l}
+use Rattle.flash.specs.Chunks.{tag_in}
 use Rattle.rules.specs.Lists.{any, largest}
-use Rattle.tags.specs.Bare.{records}
-use Rattle.tags.specs.Steps.{passes_in, number_in}
+use Rattle.tags.specs.Bare.{bare_tag, records}
 
-module _ (p : Tag → Bool) where
-  abbrev pub Any : List Look → Bool
-  Any xs = any (λ x. p x.tag) (records xs)
+pub any-tags : (p : Record → Bool) (xs : List Look) → any p (records xs) ≡ list_any (λ t. p (bare_tag t)) (filter_map tag_in xs)
+any-tags p [] = refl
+any-tags p (Blank ∷ xs) = any-tags p xs
+any-tags p (Damaged ∷ xs) = any-tags p xs
+any-tags p (record_l t ∷ xs) = ap (λ (b : Bool). p (bare_tag t) || b) (any-tags p xs)
 
-  any-cons : (x : Look) (xs : List Look) → Any (x ∷ xs) ≡ (passes_in p x || Any xs)
-  any-cons Blank xs = refl
-  any-cons Damaged xs = refl
-  any-cons (record_l t) xs = refl
+-- a fold of the larger one goes on from what it has
+larger : (f : Tag → ℕ) (n m : ℕ) (ts : List Tag) → fold (λ a t. max a (f t)) (max n m) ts ≡ max n (fold (λ a t. max a (f t)) m ts)
+larger f n m [] = refl
+larger f n m (t ∷ ts) = ap (λ (k : ℕ). fold (λ a t. max a (f t)) k ts) (let e : max (max n m) (f t) ≡ max n (max m (f t)) = omega arith in e) ∙ larger f n (max m (f t)) ts
 
-  any_step : (xs : List Look) (i : ℕ) → i < length xs → Any (drop i xs) ≡ (passes_in p (get_or xs i Blank) || Any (drop (i + 1) xs))
-  any_step xs i h = at_drop_more Any xs i Blank h ∙ any-cons (get_or xs i Blank) (drop (i + 1) xs)
-
-  pub any-more : (xs : List Look) (i : ℕ) → i < length xs → passes_in p (get_or xs i Blank) ≡ false → Any (drop i xs) ≡ Any (drop (i + 1) xs)
-  any-more xs i h e = any_step xs i h ∙ ap (λ (b : Bool). b || Any (drop (i + 1) xs)) e
-
-  pub any_found : (xs : List Look) (i : ℕ) → i < length xs → passes_in p (get_or xs i Blank) ≡ true → Any (drop i xs) ≡ true
-  any_found xs i h e = any_step xs i h ∙ ap (λ (b : Bool). b || Any (drop (i + 1) xs)) e
-
-  pub any-all : (xs : List Look) (i : ℕ) → length xs ≤ i → Any (drop i xs) ≡ false
-  any-all xs i h = at_drop_all Any xs i h
-
--- the largest number so far, with those to come
-module _ (f : Tag → ℕ) where
-  abbrev pub Largest : List Look → ℕ
-  Largest xs = largest (λ x. f x.tag) (records xs)
-
-  largest-cons : (x : Look) (xs : List Look) → Largest (x ∷ xs) ≡ max (number_in f x) (Largest xs)
-  largest-cons Blank xs = omega arith
-  largest-cons Damaged xs = omega arith
-  largest-cons (record_l t) xs = refl
-
-  pub largest-more : (xs : List Look) (i best new : ℕ) → i < length xs → new ≡ max best (number_in f (get_or xs i Blank)) → max new (Largest (drop (i + 1) xs)) ≡ max best (Largest (drop i xs))
-  largest-more xs i best new h e =
-      let s : Largest (drop i xs) ≡ max (number_in f (get_or xs i Blank)) (Largest (drop (i + 1) xs)) = at_drop_more Largest xs i Blank h ∙ largest-cons (get_or xs i Blank) (drop (i + 1) xs) in
-      omega arith
-
-  pub largest-all : (xs : List Look) (i : ℕ) → length xs ≤ i → Largest (drop i xs) ≡ 0
-  largest-all xs i h = at_drop_all Largest xs i h
+pub largest-tags : (f : Record → ℕ) (xs : List Look) → largest f (records xs) ≡ fold (λ n t. max n (f (bare_tag t))) 0 (filter_map tag_in xs)
+largest-tags f [] = refl
+largest-tags f (Blank ∷ xs) = largest-tags f xs
+largest-tags f (Damaged ∷ xs) = largest-tags f xs
+largest-tags f (record_l t ∷ xs) =
+    ap (max (f (bare_tag t))) (largest-tags f xs)
+    ∙ sym (larger (λ s. f (bare_tag s)) (f (bare_tag t)) 0 (filter_map tag_in xs))
+    ∙ ap (λ (k : ℕ). fold (λ a s. max a (f (bare_tag s))) k (filter_map tag_in xs)) (let e : max (f (bare_tag t)) 0 ≡ max 0 (f (bare_tag t)) = omega arith in e)

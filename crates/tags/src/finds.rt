@@ -1,10 +1,11 @@
-ghost use Rattle.std.specs.Prelude.{◌≡◌};
+ghost use Rattle.std.specs.Prelude.{◌≡◌, Bool};
+ghost use Rattle.std.specs.Iterator.{ActsAs};
+ghost use Rattle.flash.specs.declared.chunks.Record.{Record};
 ghost use Rattle.rules.specs.Reading.{newest};
-ghost use Rattle.tags.specs.Bare.{records};
+ghost use Rattle.tags.specs.Bare.{bare_tag, records};
 ghost use Rattle.tags.specs.Finds.{record_of, InPlace};
-ghost use Rattle.tags.specs.Steps.{better};
+ghost use Rattle.tags.specs.Steps.{found_in, newer_of};
 
-use crate::queries::Test;
 use crate::tags::newer;
 use flash::{Look, Tag};
 
@@ -15,36 +16,36 @@ pub struct Found {
     pub tag: Tag,
 }
 
-// The best so far, with one look more.
-fn better<T: Test>(best: Option<Found>, place: usize, look: &Look, test: &T) -> Option<Found>
-    ensures { result ≡ better (T.holds test.now) best place look.now }
-{
-    let Look::Record(tag) = look else {
-        return best;
-    };
-    if !test.passes(tag) {
-        return best;
+impl Found {
+    // The record that a look at this place tells of.
+    fn at(place: usize, look: &Look) -> Option<Found>
+        ensures { result ≡ found_in place look.now }
+    {
+        look.tag().map(|tag| Found { place, tag })
     }
-    match best {
-        None => Some(Found { place, tag: *tag }),
-        Some(found) => {
-            if newer(tag, &found.tag) {
-                Some(Found { place, tag: *tag })
-            } else {
-                best
-            }
+
+    // The later one if it is newer.
+    fn or_newer(self, later: Found) -> Found
+        ensures { result ≡ newer_of self later }
+    {
+        if newer(&later.tag, &self.tag) {
+            later
+        } else {
+            self
         }
     }
 }
 
-// The newest of the records that pass.
-pub fn newest<T: Test>(looks: &[Look], test: &T) -> Option<Found>
-    ensures value { record_of result ≡ newest (λ x. T.holds test.now x.tag) (records looks.now) }
-    ensures place { InPlace looks.now result }
+// The newest of the records that pass the test.
+pub fn newest<F: Fn(Tag) -> bool>(looks: &[Look], test: F) -> Option<Found>
+    requires { F.IsAlwaysCallable test }
+    ensures value { (p : Record → Bool) → ActsAs F.FnMut test (λ t. p (bare_tag t)) → record_of result ≡ newest p (records looks.now) }
+    ensures place { (p : Record → Bool) → ActsAs F.FnMut test (λ t. p (bare_tag t)) → InPlace looks.now result }
 {
-    let mut best: Option<Found> = None;
-    for (place, look) in looks.iter().enumerate() {
-        best = better(best, place, look, test);
-    }
-    best
+    looks
+        .iter()
+        .enumerate()
+        .filter_map(|(place, look)| Found::at(place, look))
+        .filter(|found| test(found.tag))
+        .reduce(Found::or_newer)
 }

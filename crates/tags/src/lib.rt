@@ -2,14 +2,11 @@
 // tags pass a test. It touches no chip, and knows nothing of blocks.
 #![tactic(auto)]
 
-pub mod criteria;
 pub mod finds;
 pub mod kinds;
 pub mod queries;
-pub mod serials;
 pub mod tags;
 
 pub use finds::{Found, newest};
 pub use kinds::{kind_of, object_of};
-pub use queries::{Test, any};
-pub use serials::highest_serial;
+pub use queries::{any, highest_serial, largest};

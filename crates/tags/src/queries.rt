@@ -1,37 +1,33 @@
-ghost use Rattle.std.specs.Prelude.{◌≡◌, Bool};
-ghost use Rattle.flash.specs.declared.chunks.Tag.{Tag};
-ghost use Rattle.rules.specs.Lists.{any};
-ghost use Rattle.tags.specs.Bare.{records};
-ghost use Rattle.tags.specs.Steps.{passes_in};
+ghost use Rattle.std.specs.Prelude.{◌≡◌, ℕ, Bool};
+ghost use Rattle.std.specs.Iterator.{ActsAs};
+ghost use Rattle.flash.specs.declared.chunks.Record.{Record};
+ghost use Rattle.rules.specs.Lists.{any, largest};
+ghost use Rattle.tags.specs.Bare.{bare_tag, records};
 
 use flash::{Look, Tag};
 
-// A test that a record passes or not, by its tag.
-pub trait Test {
-    ghost holds: { Self → Tag → Bool };
-
-    fn passes(&self, tag: &Tag) -> bool
-        ensures { result ≡ holds self.now tag.now };
+// Whether some record passes the test.
+pub fn any<F: Fn(Tag) -> bool>(looks: &[Look], test: F) -> bool
+    requires { F.IsAlwaysCallable test }
+    ensures { (p : Record → Bool) → ActsAs F.FnMut test (λ t. p (bare_tag t)) → result ≡ any p (records looks.now) }
+{
+    looks.iter().filter_map(Look::tag).any(test)
 }
 
-// The look tells of a record that passes.
-fn tells<T: Test>(look: &Look, test: &T) -> bool
-    ensures { result ≡ passes_in (T.holds test.now) look.now }
+// The largest number that a record has, or 0.
+pub fn largest<F: Fn(Tag) -> u32>(looks: &[Look], number: F) -> u32
+    requires { F.IsAlwaysCallable number }
+    ensures { (f : Record → ℕ) → ActsAs F.FnMut number (λ t. f (bare_tag t)) → result ≡ largest f (records looks.now) }
 {
-    match look {
-        Look::Record(tag) => test.passes(tag),
-        _ => false,
-    }
+    looks
+        .iter()
+        .filter_map(Look::tag)
+        .fold(0, |most, tag| most.max(number(tag)))
 }
 
-// Whether some record passes.
-pub fn any<T: Test>(looks: &[Look], test: &T) -> bool
-    ensures { result ≡ any (λ x. T.holds test.now x.tag) (records looks.now) }
+// The highest serial that stands, or 0.
+pub fn highest_serial(looks: &[Look]) -> u32
+    ensures { result ≡ largest (λ x. x.tag.serial) (records looks.now) }
 {
-    for look in looks {
-        if tells(look, test) {
-            return true;
-        }
-    }
-    false
+    largest(looks, |tag| tag.serial)
 }

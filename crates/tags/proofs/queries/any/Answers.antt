@@ -1,15 +1,15 @@
-use Rattle.std.proofs.Common.{sym, ◌∙◌, arith}
-use Rattle.tags.proofs.Scans.{any-more, any_found, any-all}
+use Rattle.std.proofs.Common.{sym, ◌∙◌, rules, tests}
+use Rattle.std.proofs.lemmas.Iterator.{YieldsList-from_slice}
+use Rattle.std.proofs.lemmas.Iterator.Consumers.{YieldsList-from_filter_map}
+use Rattle.std.proofs.lemmas.Iterator.Search.{any_from_yields_List}
+use Rattle.flash.specs.Chunks.{tag_in}
+use Rattle.tags.specs.Bare.{bare_tag}
+use Rattle.tags.proofs.Scans.{any-tags}
 use Rattle.tags.proofs.queries.any.Goals as goal
 
-pub returns-then-tells : goal.returns-then-tells
-returns-then-tells g c =
-    sym (any_found (g.T.Test.holds c.args.test.now) c.args.looks.now c.loop-look.look-index c.loop-look-test.true (sym c.if-tells.ensures)) ∙ c.loop-look.invariant
-
-pub loop-look-preserved : goal.loop-look-preserved
-loop-look-preserved g c =
-    sym (any-more (g.T.Test.holds c.args.test.now) c.args.looks.now c.loop-look.look-index c.loop-look-test.true (sym c.if-tells.ensures)) ∙ c.loop-look.invariant
-
 pub returns : goal.returns
-returns g c =
-    sym (any-all (g.T.Test.holds c.args.test.now) c.args.looks.now c.loop-look.look-index (omega arith)) ∙ c.loop-look.invariant
+returns g c = λ p acts.
+    any_from_yields_List (λ t. p (bare_tag t)) _ _ _ c.any.ensures.ran
+    (YieldsList-from_filter_map _ tag_in (YieldsList-from_slice c.args.looks.now cc) c.filter_map.ensures.closure (λ x r q k. search (rules, tests)))
+    acts
+    ∙ sym (any-tags p c.args.looks.now)
