@@ -10,14 +10,12 @@ use Rattle.flash.specs.Chunks.{look_of}
 use Rattle.rules.specs.Lists.{first_where, next_if}
 use Rattle.rules.specs.Places.{Flash, load}
 use Rattle.rules.specs.Records.{is_blank}
-use Rattle.tags.specs.Bare.{bares}
-use Rattle.table.specs.Rows.{blocks_of}
 use Rattle.table.proofs.BareBlocks.{blocks-alike, table-mirrors}
 use Rattle.scan.specs.declared.indexes.Index.{Index}
 use Rattle.scan.specs.Flat.{flat, looks}
 use Rattle.scan.specs.Indexes.{looks_in}
 use Rattle.scan.proofs.Flat.{looks_long, looks-at}
-use Rattle.places.specs.Places.{Told, rows_of, is_blank_l}
+use Rattle.places.specs.Places.{Told, blocks_in, rows_of, is_blank_l}
 
 -- a block lies within the rows of all
 pub block_fits : (b n p : ℕ) → b < n → b * p + p ≤ n * p
@@ -99,8 +97,10 @@ module _ (f : Flash) (x : Index) (t : Told f x) where
       ∙ looks-at (get_or f.blocks b []) c
 
   -- loads by the index are loads by the contents
-  pub load-known : (k b : ℕ) → ((n : ℕ) → length (looks_in x) ≡ n * x.sizes.chunks → b < n → k ≡ load (blocks_of x.sizes.chunks n (bares (looks_in x))) b) → b < x.sizes.blocks → k ≡ load f.blocks b
-  load-known k b h l =
-      h x.sizes.blocks looks-long-is l
-      ∙ ap (λ (bs : List (List Chunk)). load bs b) (table-mirrors x.sizes.blocks x.sizes.chunks f.blocks (looks_in x) (record { blocks_long = t.blocks_long; block_long = t.block_long; looks_long = looks-long-is; each = each-look })).0
+  load-known : (b : ℕ) → load (blocks_in x) b ≡ load f.blocks b
+  load-known b =
+      ap (λ (bs : List (List Chunk)). load bs b) (table-mirrors x.sizes.blocks x.sizes.chunks f.blocks (looks_in x) (record { blocks_long = t.blocks_long; block_long = t.block_long; looks_long = looks-long-is; each = each-look })).0
       ∙ (blocks-alike f.blocks).load_same b
+
+  pub loads_known : ◌≡◌ {A = ℕ → ℕ} (load (blocks_in x)) (load f.blocks)
+  loads_known = λ i b. load-known b i

@@ -1,22 +1,32 @@
--- The first element of a list that passes a test, and how many pass, found by a loop. Assumes nothing.
-use Rattle.std.proofs.Common.{◌≡◌, ℕ, zero, suc, ◌+◌, ◌<◌, ◌≤◌, Bool, true, false, cond, List, [], ◌∷◌, length, get_or, drop, Some, None, sym, refl, ap, ◌∙◌, arith}
-use Rattle.std.proofs.lemmas.List.{at_drop_more}
+-- The rules' words for searches through a list, in the library's. Assumes nothing.
+use Rattle.std.proofs.Common.{◌≡◌, ℕ, ◌+◌, Bool, true, false, cond, List, [], ◌∷◌, Some, Option, sym, refl, ap, ◌∙◌, inl, inr, arith, zero-add}
+use Rattle.std.proofs.lemmas.List.Recursion.{is_count_by}
+use Rattle.std.proofs.lemmas.Bool.{cases_Bool}
+use Rattle.std.proofs.lemmas.Bool.Decides.{nat_tests}
+use Rattle.std.proofs.lemmas.Grind.{common_steps}
+use Rattle.std.specs.List.{position, count_by}
 use Rattle.rules.specs.Lists.{first_where, next_if, count}
 
--- none of the first i passes
-abbrev pub NoneTo : {A : Type 0} → (A → Bool) → List A → A → ℕ → Type 0
-NoneTo t xs d i = (k : ℕ) → k < i → t (get_or xs k d) ≡ false
+-- one element more in front
+step-true : {A : Type 0} (t : A → Bool) (x : A) (xs : List A) → t x ≡ true → position t (x ∷ xs) ≡ Some 0
+step-true t x xs e = grind (arith, nat_tests, common_steps)
 
-pub where-some : {A : Type 0} (t : A → Bool) (xs : List A) (d : A) (i : ℕ) → i < length xs → NoneTo t xs d i → t (get_or xs i d) ≡ true → first_where t xs ≡ Some i
-where-some t [] d i l f e = absurd (omega arith)
-where-some t (x ∷ xs) d zero l f e = ap (λ (b : Bool). next_if b (first_where t xs)) e
-where-some t (x ∷ xs) d (suc i) l f e =
-    ap (λ (b : Bool). next_if b (first_where t xs)) (f 0 (omega arith)) ∙ ap (next_if false) (where-some t xs d i (omega arith) (λ k h. f (suc k) (omega arith)) e)
+step-false : {A : Type 0} (t : A → Bool) (x : A) (xs : List A) → t x ≡ false → position t (x ∷ xs) ≡ next_if false (position t xs)
+step-false t x xs e = grind (arith, nat_tests, common_steps)
 
-pub where-none : {A : Type 0} (t : A → Bool) (xs : List A) (d : A) (i : ℕ) → length xs ≤ i → NoneTo t xs d i → first_where t xs ≡ None
-where-none t [] d i l f = refl
-where-none t (x ∷ xs) d i l f =
-    ap (λ (b : Bool). next_if b (first_where t xs)) (f 0 (omega arith)) ∙ ap (next_if false) (where-none t xs d (length xs) (omega arith) (λ k h. f (suc k) (omega arith)))
+where_by : {A : Type 0} (t : A → Bool) (xs : List A) → first_where t xs ≡ position t xs
+where_by t [] = refl
+where_by t (x ∷ xs) = elim (cases_Bool (t x)) [
+  | inl e ↦ ap (λ b. next_if b (first_where t xs)) e ∙ sym (step-true t x xs e)
+  | inr e ↦ ap (λ b. next_if b (first_where t xs)) e ∙ ap (next_if false) (where_by t xs) ∙ sym (step-false t x xs e)
+]
 
-pub count-more : {A : Type 0} (t : A → Bool) (xs : List A) (d : A) (i : ℕ) (b : Bool) → i < length xs → b ≡ t (get_or xs i d) → count t (drop i xs) ≡ cond b 1 0 + count t (drop (i + 1) xs)
-count-more t xs d i b h e = at_drop_more (count t) xs i d h ∙ ap (λ (y : Bool). cond y 1 0 + count t (drop (i + 1) xs)) (sym e)
+pub found : {A : Type 0} (t : A → Bool) (xs : List A) (r : Option ℕ) → r ≡ position t xs → r ≡ first_where t xs
+found t xs r e = e ∙ sym (where_by t xs)
+
+one-more : (b : Bool) (n : ℕ) → cond b 1 0 + n ≡ cond b (1 + n) n
+one-more true n = refl
+one-more false n = zero-add n
+
+pub counted : {A : Type 0} (t : A → Bool) (xs : List A) (k : ℕ) → k ≡ count_by t xs → k ≡ count t xs
+counted t xs k e = e ∙ sym (is_count_by (count t) t refl (λ y ys. one-more (t y) (count t ys)) xs)

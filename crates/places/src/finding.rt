@@ -1,55 +1,66 @@
-ghost use Rattle.std.specs.Prelude.{◌≡◌};
-ghost use Rattle.rules.specs.Places.{Flash, open_place, blank_place, add_place, copy_place};
-ghost use Rattle.places.specs.Places.{Told, place_told};
+ghost use Rattle.std.specs.Prelude.{◌≡◌, ◌<◌, ◌^◌};
+ghost use Rattle.rules.specs.Places.{Flash, add_place, copy_place};
+ghost use Rattle.places.specs.Places.{Told, place_told, open_in, blank_in, spare_in};
 
 use crate::blocks::{count_standing, first_blank, first_standing, rows_of};
 use flash::Place;
 use rules::Standing;
 use scan::Index;
 
+// The place of a chunk.
+fn place(block: usize, chunk: usize) -> Place
+    requires { (block < 2 ^ 32) × (chunk < 2 ^ 32) }
+    ensures block { result.block ≡ block }
+    ensures chunk { result.chunk ≡ chunk }
+{
+    Place {
+        block: block as u32,
+        chunk: chunk as u32,
+    }
+}
+
 // The open block's first blank chunk.
+#[tactic(auto, unfolding(crate::specs::Places::open_in))]
 fn open_place(index: &Index) -> Option<Place>
-    ensures { (f : Flash) → Told f index.now → place_told result ≡ open_place f }
+    ensures { place_told result ≡ open_in index.now }
 {
     let block = first_standing(index.stands(), Standing::Open)?;
     let chunk = first_blank(rows_of(index, block))?;
-    Some(Place {
-        block: block as u32,
-        chunk: chunk as u32,
-    })
+    Some(place(block, chunk))
 }
 
 // Chunk 0 of the lowest blank block.
+#[tactic(auto, unfolding(crate::specs::Places::blank_in))]
 fn blank_place(index: &Index) -> Option<Place>
-    ensures { (f : Flash) → Told f index.now → place_told result ≡ blank_place f }
+    ensures { place_told result ≡ blank_in index.now }
 {
-    let block = first_standing(index.stands(), Standing::Blank)?;
-    Some(Place {
-        block: block as u32,
-        chunk: 0,
-    })
+    first_standing(index.stands(), Standing::Blank).map(|block| place(block, 0))
 }
 
-// The place for a new record: in the open block; else, with two blank blocks or more, in the lowest. Where there is none,
-// a block has to be cleaned.
-pub fn add_place(index: &Index) -> Option<Place>
-    ensures { (f : Flash) → Told f index.now → place_told result ≡ add_place f }
+// The same, if another block stays blank.
+#[tactic(auto, unfolding(crate::specs::Places::spare_in))]
+fn spare_place(index: &Index) -> Option<Place>
+    ensures { place_told result ≡ spare_in index.now }
 {
-    if let Some(at) = open_place(index) {
-        return Some(at);
-    }
     if count_standing(index.stands(), Standing::Blank) < 2 {
         return None;
     }
     blank_place(index)
 }
 
+// The place for a new record: in the open block; else, with two blank blocks or more, in the lowest. Where there is none,
+// a block has to be cleaned.
+#[tactic(auto, using(crate::proofs::Spots::add_told))]
+pub fn add_place(index: &Index) -> Option<Place>
+    ensures { (f : Flash) → Told f index.now → place_told result ≡ add_place f }
+{
+    open_place(index).or_else(|| spare_place(index))
+}
+
 // The place for a copy: in the open block; else in the lowest blank block.
+#[tactic(auto, using(crate::proofs::Spots::copy_told))]
 pub fn copy_place(index: &Index) -> Option<Place>
     ensures { (f : Flash) → Told f index.now → place_told result ≡ copy_place f }
 {
-    if let Some(at) = open_place(index) {
-        return Some(at);
-    }
-    blank_place(index)
+    open_place(index).or_else(|| blank_place(index))
 }

@@ -1,8 +1,7 @@
-ghost use Rattle.std.specs.Prelude.{◌≡◌};
-ghost use Rattle.rules.specs.Places.{Flash, to_clean};
-ghost use Rattle.places.specs.Places.{Told, victim_told, lighter};
+ghost use Rattle.std.specs.Prelude.{◌≡◌, ◌<◌};
+ghost use Rattle.rules.specs.Places.{Flash, load, to_clean};
+ghost use Rattle.places.specs.Places.{Told, blocks_in, victim_told, lighter, with_load};
 
-use crate::blocks::stands_as;
 use rules::Standing;
 use scan::Index;
 use table::load;
@@ -14,27 +13,33 @@ pub struct Victim {
     pub load: usize,
 }
 
+// A block with its load.
+fn with_load(index: &Index, block: usize) -> Victim
+    requires { block < index.now.sizes.blocks }
+    ensures { result ≡ with_load (load (blocks_in index.now)) block }
+{
+    Victim {
+        block,
+        load: load(index.looks(), index.sizes.chunks as usize, block),
+    }
+}
+
 // Of two blocks the one of lesser load, the first among equals.
-fn lighter(best: Option<Victim>, other: Victim) -> Victim
+fn lighter(best: Victim, other: Victim) -> Victim
     ensures { result ≡ lighter best other }
 {
-    match best {
-        Some(best) => { if other.load < best.load { other } else { best } }
-        None => other,
-    }
+    if other.load < best.load { other } else { best }
 }
 
 // The closed block of least load, the lowest number among equals.
 pub fn to_clean(index: &Index) -> Option<Victim>
     ensures { (f : Flash) → Told f index.now → victim_told result ≡ to_clean f }
 {
-    let looks = index.looks();
-    let mut best: Option<Victim> = None;
-    for (block, standing) in index.stands().iter().enumerate() {
-        if stands_as(*standing, Standing::Closed) {
-            let load = load(looks, index.sizes.chunks as usize, block);
-            best = Some(lighter(best, Victim { block, load }));
-        }
-    }
-    best
+    index
+        .stands()
+        .iter()
+        .enumerate()
+        .filter(|(_, standing)| **standing == Standing::Closed)
+        .map(|(block, _)| with_load(index, block))
+        .reduce(lighter)
 }

@@ -1,102 +1,127 @@
--- Rows laid one after the other into the caller's, by rising object number. Assumes nothing.
-use Rattle.std.proofs.Common.{◌≡◌, ℕ, suc, ◌+◌, ◌-◌, ◌<◌, ◌≤◌, Bool, cond, List, [], ◌∷◌, ◌++◌, length, take, drop, set, Some, None, Option, sym, refl, ap, ◌∙◌, add-zero, add-one, arith, length-append}
-use Rattle.std.proofs.lemmas.List.{take_more_set, append_assoc, append-nil, drop-set-lt, drop-drop, take-append-drop}
+-- The rows of the files, by rising object number. Assumes nothing.
+use Rattle.std.proofs.Common.{◌≡◌, ℕ, suc, ◌+◌, ◌-◌, ◌<◌, Bool, true, false, cond, List, [], ◌∷◌, ◌++◌, map, length, drop, set, Some, None, Option, sym, refl, ap, ◌∙◌, subst, add-one, arith}
+use Rattle.std.specs.declared.ops.RangeInclusive.{RangeInclusive}
+use Rattle.std.specs.Iterator.{Yields}
+use Rattle.std.specs.List.{filter, cons_option, enumerate_from}
 use Rattle.std.specs.Option.{option_map}
+use Rattle.std.specs.Range.{range_inclusive_steps, range_inclusive_left, range_inclusive_len, range_inclusive_start, range_inclusive_end, range_inclusive_exhausted}
+use Rattle.std.proofs.lemmas.List.{append_assoc, length-append, length-map, map-append, map-id, set-append_right}
+use Rattle.std.proofs.lemmas.List.FromFn.{length-enumerate_from, get_or-enumerate_from}
+use Rattle.std.proofs.Math.Seq.{drop-cons}
+use Rattle.std.proofs.lemmas.Iterator.{YieldsList}
+use Rattle.std.proofs.lemmas.Iterator.Consumers.{YieldsList-from_shown, YieldsList-turn, YieldsList-end}
 use Rattle.flash.specs.declared.chunks.Record.{Record}
 use Rattle.rules.specs.declared.rows.Row.{Row}
 use Rattle.rules.specs.Calls.{up_from, objects, row_of, rows_in, rows}
 use Rattle.rules.specs.Lists.{is_there}
 use Rattle.rules.specs.Reading.{File, Files, size, present, header, chunk, highest_chunk}
 use Rattle.reading.specs.Sizes.{length_by, length_of, size_by, size_of}
-use Rattle.questions.specs.Lists.{narrowed, row_if, row_by, table_rows, laid_at}
+use Rattle.questions.specs.Lists.{narrowed, row_by, table_rows}
 
--- a row with its size as it is
-abbrev plain_row : ℕ → Option ℕ → Option ℕ → List Row
-plain_row o None m = []
-plain_row o (Some l) None = []
-plain_row o (Some l) (Some n) = record { object = o; length = l; size = n } ∷ []
+-- what a range of numbers has left, and its steps
+abbrev left : RangeInclusive ℕ → ℕ
+left = range_inclusive_left (λ x y. y - x)
 
--- the objects from o to 511
-abbrev pub objects_from : ℕ → List ℕ
-objects_from o = up_from o (512 - o)
+abbrev pub up_steps : RangeInclusive ℕ → Option ℕ → RangeInclusive ℕ → Type 0
+up_steps = range_inclusive_steps (λ x y. y - x) (λ x y. y ≡ x + 1)
 
-pub objects-all : objects_from 257 ≡ objects
+abbrev shown : RangeInclusive ℕ → List ℕ
+shown s = up_from (range_inclusive_start s) (left s)
+
+one-shown : (s : RangeInclusive ℕ) (x : ℕ) (t : RangeInclusive ℕ) → up_steps s (Some x) t → shown s ≡ x ∷ shown t
+one-shown s x t h =
+    let e : left s ≡ suc (left t) = omega (arith, h.1.1) in
+    ap (up_from (range_inclusive_start s)) e ∙ ap {B = List ℕ} (λ n. n ∷ up_from (suc (range_inclusive_start s)) (left t)) (sym h.1.0) ∙ ap {B = List ℕ} (λ ns. x ∷ ns) (others (range_inclusive_exhausted t) refl)
+  where
+    others : (b : Bool) → range_inclusive_exhausted t ≡ b → up_from (suc (range_inclusive_start s)) (left t) ≡ up_from (range_inclusive_start t) (left t)
+    others true e =
+        let z : left t ≡ 0 = ap (range_inclusive_len (λ x y. y - x) (range_inclusive_start t) (range_inclusive_end t)) e in
+        ap (up_from (suc (range_inclusive_start s))) z ∙ sym (ap (up_from (range_inclusive_start t)) z)
+    others false e = ap (λ (n : ℕ). up_from n (left t)) (sym (h.1.2 e ∙ add-one (range_inclusive_start s)))
+
+-- the object numbers, as a range gives them
+pub objects_yielded : (s : RangeInclusive ℕ) → range_inclusive_start s ≡ 257 → range_inclusive_end s ≡ 511 → range_inclusive_exhausted s ≡ false → YieldsList up_steps (λ n. n) s objects
 unfolding objects
-objects-all = refl
+objects_yielded s a b z =
+    let e : shown s ≡ up_from 257 255 = λ i. up_from (a i) (range_inclusive_len (λ x y. y - x) (a i) (b i) (z i)) in
+    subst (YieldsList up_steps (λ n. n) s) e (YieldsList-from_shown up_steps (λ n. n) shown (λ t u h. ap (λ (k : ℕ). length (up_from (range_inclusive_start t) k)) h.1.0) one-shown s)
 
-pub objects-more : (o : ℕ) → o < 512 → objects_from o ≡ o ∷ objects_from (o + 1)
-objects-more o h =
-    let e : 512 - o ≡ suc (512 - (o + 1)) = omega arith in
-    ap (up_from o) e ∙ ap (λ (i : ℕ). o ∷ up_from i (512 - (o + 1))) (sym (add-one o))
+-- the files are those that have a row
+one-more : (part : ℕ → Option Record) (o : ℕ) (h : Option Record) (top : ℕ) (os : List ℕ) (ys : List Row) → length os ≡ length ys
+    → length (cond (is_there h) (o ∷ os) os) ≡ length (cons_option (row_by o (length_by h top) (size_by part (length_by h top))) ys)
+one-more part o None top os ys e = e
+one-more part o (Some h) top os ys e = ap suc e
 
-pub objects-end : (o : ℕ) → 512 ≤ o → objects_from o ≡ []
-objects-end o h = let e : 512 - o ≡ 0 = omega arith in ap (up_from o) e
+pub files_counted : (rs : List Record) (os : List ℕ) → length (filter (present rs) os) ≡ length (table_rows rs os)
+unfolding present
+files_counted rs [] = refl
+files_counted rs (o ∷ os) = one-more (chunk rs o) o (header rs o) (highest_chunk rs o) (filter (present rs) os) (table_rows rs os) (files_counted rs os)
 
--- a row more, or none
-laid-some : (xs rest all : List Row) (n : ℕ) (row : Row) → n < length xs → take n xs ++ (row ∷ rest) ≡ all → take (n + 1) (set xs n row) ++ rest ≡ all
-laid-some xs rest all n row h e = ap (λ (l : List Row). l ++ rest) (take_more_set xs n row h) ∙ append_assoc (take n xs) (row ∷ []) rest ∙ e
+-- one row more, at its place
+pub laid_one : (xs was : List Row) (ys : List (ℕ × Row)) (at : ℕ) (row : Row) → at ≡ length ys → at < length was → xs ≡ map (λ p. p.1) ys ++ drop (length ys) was
+    → set xs at row ≡ map (λ p. p.1) (ys ++ (at, row) ∷ []) ++ drop (length (ys ++ (at, row) ∷ [])) was
+laid_one xs was ys at row e h s =
+    let n = length ys in
+    let front : List Row = map (λ p. p.1) ys in
+    let none : n - n ≡ 0 = omega arith in
+    ap (λ (zs : List Row). set zs at row) s ∙ ap (λ (k : ℕ). set (front ++ drop n was) k row) e
+    ∙ set-append_right front (drop n was) n n row (length-map ys (λ p. p.1)) (omega arith)
+    ∙ ap (λ (k : ℕ). front ++ set (drop n was) k row) none
+    ∙ ap (λ (zs : List Row). front ++ set zs 0 row) (drop-cons was n row (omega arith))
+    ∙ sym (append_assoc front (row ∷ []) (drop (suc n) was))
+    ∙ ap (λ (zs : List Row). zs ++ drop (suc n) was) (sym (map-append (λ p. p.1) ys ((at, row) ∷ [])))
+    ∙ ap (λ (k : ℕ). map (λ p. p.1) (ys ++ (at, row) ∷ []) ++ drop k was) (let q : suc n ≡ length (ys ++ (at, row) ∷ []) = omega (arith, length-append ys ((at, row) ∷ [])) in q)
 
-beyond-some : (xs was : List Row) (n : ℕ) (row : Row) → drop n xs ≡ drop n was → drop (n + 1) (set xs n row) ≡ drop (n + 1) was
-beyond-some xs was n row e = drop-set-lt (n + 1) xs n row (omega arith) ∙ sym (drop-drop 1 n xs) ∙ ap (drop 1) e ∙ drop-drop 1 n was
+-- all rows, and those beyond
+pub laid_all : (xs was all : List Row) (ys : List (ℕ × Row)) → map (λ p. p.1) ys ≡ all → xs ≡ map (λ p. p.1) ys ++ drop (length ys) was → xs ≡ all ++ drop (length all) was
+laid_all xs was all ys e s = s ∙ ap (λ (zs : List Row). zs ++ drop (length ys) was) e ∙ ap (λ (k : ℕ). all ++ drop k was) (sym (length-map ys (λ p. p.1)) ∙ ap length e)
 
-pub laid_more : (m : Option Row) (xs rest all : List Row) (n : ℕ) → n + length (row_if m) ≤ length xs → take n xs ++ (row_if m ++ rest) ≡ all → take (n + length (row_if m)) (laid_at xs n (row_if m)) ++ rest ≡ all
-laid_more None xs rest all n h e = ap (λ (k : ℕ). take k xs ++ rest) (add-zero n) ∙ e
-laid_more (Some y) xs rest all n h e = laid-some xs rest all n y (omega arith) e
+without-places : {X : Type 0} (n : ℕ) (xs : List X) → map (λ p. p.1) (enumerate_from n xs) ≡ xs
+without-places n [] = refl
+without-places n (x ∷ xs) = ap (λ ys. x ∷ ys) (without-places (n + 1) xs)
 
-pub beyond-more : (m : Option Row) (xs was : List Row) (n : ℕ) → drop n xs ≡ drop n was → drop (n + length (row_if m)) (laid_at xs n (row_if m)) ≡ drop (n + length (row_if m)) was
-beyond-more None xs was n e = ap (λ (k : ℕ). drop k xs) (add-zero n) ∙ e ∙ ap (λ (k : ℕ). drop k was) (sym (add-zero n))
-beyond-more (Some y) xs was n e = beyond-some xs was n y e
+-- a loop over all rows with their places, which has yielded some
+module _ {S : Type 0} {steps : S → Option (ℕ × Row) → S → Type 0} (s t u : S) (all : List Row) (xs : List (ℕ × Row)) (y : Yields steps s xs t) (r : Option (ℕ × Row)) (done : steps t r u) where
+  pub row_turn : (x : ℕ × Row) → r ≡ Some x → YieldsList steps (λ p. (p.0, p.1)) s (enumerate_from 0 all) → (x.0 ≡ length xs) × (length xs < length all)
+  row_turn x e l =
+      let n = length xs in
+      let h = YieldsList-turn l xs t y r u x e done in
+      let k : n < length all = omega (arith, h.0, length-enumerate_from 0 all) in
+      let z : 0 + n ≡ n = omega arith in
+      (ap (λ (q : ℕ × Row). q.0) (h.1 ∙ get_or-enumerate_from 0 all n x k) ∙ z, k)
 
-pub laid_end : (xs was all : List Row) (n : ℕ) → take n xs ++ [] ≡ all → drop n xs ≡ drop n was → xs ≡ all ++ drop n was
-laid_end xs was all n e f = sym (take-append-drop n xs) ∙ ap (λ (l : List Row). l ++ drop n xs) (sym (append-nil (take n xs)) ∙ e) ∙ ap (λ (l : List Row). all ++ l) f
-
--- the objects left, with one fewer
-module _ (rs : List Record) (o : ℕ) (h : o < 512) (m : Option Row) (e : row_if m ≡ row_by o (length_of rs o) (size_of rs o)) where
-  pub rest_more : table_rows rs (objects_from o) ≡ row_if m ++ table_rows rs (objects_from (o + 1))
-  rest_more = ap (table_rows rs) (objects-more o h) ∙ ap (λ (l : List Row). l ++ table_rows rs (objects_from (o + 1))) (sym e)
-
-  pub rest-long : length (table_rows rs (objects_from o)) ≡ length (row_if m) + length (table_rows rs (objects_from (o + 1)))
-  rest-long = ap length rest_more ∙ length-append (row_if m) (table_rows rs (objects_from (o + 1)))
-
-pub rest_end : (rs : List Record) (o : ℕ) → 512 ≤ o → table_rows rs (objects_from o) ≡ []
-rest_end rs o h = ap (table_rows rs) (objects-end o h)
-
-pub rest_all : (rs : List Record) → table_rows rs (objects_from 257) ≡ table_rows rs objects
-rest_all rs = ap (table_rows rs) objects-all
+  pub rows_end : r ≡ None → YieldsList steps (λ p. (p.0, p.1)) s (enumerate_from 0 all) → map (λ p. p.1) xs ≡ all
+  rows_end e l = ap {A = List (ℕ × Row)} (map (λ p. p.1)) (sym (map-id xs) ∙ (YieldsList-end l xs t y r u e done).0) ∙ without-places 0 all
 
 -- the rows that the table tells are those of the files
+abbrev plain_row : ℕ → Option ℕ → Option ℕ → Option Row
+plain_row o None m = None
+plain_row o (Some l) None = None
+plain_row o (Some l) (Some n) = Some (record { object = o; length = l; size = n })
+
 row-narrow : (o : ℕ) (l n : Option ℕ) → row_by o l n ≡ plain_row o l (option_map narrowed n)
 row-narrow o None n = refl
 row-narrow o (Some l) None = refl
 row-narrow o (Some l) (Some n) = refl
 
-row_same : (o : ℕ) (m : Option File) → plain_row o (option_map (λ y. y.long) m) (option_map size m) ≡ row_of o m
-row_same o None = refl
-row_same o (Some f) = refl
+row-cons : (o : ℕ) (m : Option File) (ys : List Row) → cons_option (plain_row o (option_map (λ y. y.long) m) (option_map size m)) ys ≡ row_of o m ++ ys
+row-cons o None ys = refl
+row-cons o (Some f) ys = refl
 
 module _ (rs : List Record) (fs : Files) (l : (o : ℕ) → length_of rs o ≡ option_map (λ y. y.long) (fs o)) (n : (o : ℕ) → option_map narrowed (size_of rs o) ≡ option_map size (fs o)) where
-  row-known : (o : ℕ) → row_by o (length_of rs o) (size_of rs o) ≡ row_of o (fs o)
+  row-known : (o : ℕ) → row_by o (length_of rs o) (size_of rs o) ≡ plain_row o (option_map (λ y. y.long) (fs o)) (option_map size (fs o))
   row-known o =
       row-narrow o (length_of rs o) (size_of rs o)
       ∙ ap (λ (y : Option ℕ). plain_row o y (option_map narrowed (size_of rs o))) (l o)
       ∙ ap (plain_row o (option_map (λ y. y.long) (fs o))) (n o)
-      ∙ row_same o (fs o)
 
   rows_in_lem : (os : List ℕ) → table_rows rs os ≡ rows_in fs os
   rows_in_lem [] = refl
-  rows_in_lem (o ∷ os) = ap (λ (y : List Row). y ++ table_rows rs os) (row-known o) ∙ ap (λ (y : List Row). row_of o (fs o) ++ y) (rows_in_lem os)
+  rows_in_lem (o ∷ os) =
+      ap (λ (y : Option Row). cons_option y (table_rows rs os)) (row-known o)
+      ∙ ap (cons_option (plain_row o (option_map (λ y. y.long) (fs o)) (option_map size (fs o)))) (rows_in_lem os)
+      ∙ row-cons o (fs o) (rows_in fs os)
 
   pub rows-known : table_rows rs objects ≡ rows fs
   unfolding rows
   rows-known = rows_in_lem objects
-
--- counting the files
-row_count : (part : ℕ → Option Record) (o : ℕ) (h : Option Record) (top : ℕ) → length (row_by o (length_by h top) (size_by part (length_by h top))) ≡ cond (is_there h) 1 0
-row_count part o None top = refl
-row_count part o (Some h) top = refl
-
-pub count-more : (rs : List Record) (o : ℕ) (b : Bool) → o < 512 → b ≡ present rs o → length (table_rows rs (objects_from o)) ≡ cond b 1 0 + length (table_rows rs (objects_from (o + 1)))
-unfolding present
-count-more rs o b high e =
-    ap (λ (os : List ℕ). length (table_rows rs os)) (objects-more o high) ∙ length-append (row_by o (length_of rs o) (size_of rs o)) (table_rows rs (objects_from (o + 1)))
-    ∙ ap (λ (k : ℕ). k + length (table_rows rs (objects_from (o + 1)))) (row_count (chunk rs o) o (header rs o) (highest_chunk rs o) ∙ ap (λ (c : Bool). cond c 1 0) (sym e))

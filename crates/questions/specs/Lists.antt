@@ -1,5 +1,6 @@
 -- Sizes and rows of the files, as the table tells them. Assumes nothing.
-use Rattle.std.specs.Prelude.{ℕ, min, Bool, true, false, List, [], ◌∷◌, ◌++◌, Some, None, Ok, Err, Option, Result, slice_set}
+use Rattle.std.specs.Prelude.{ℕ, min, Bool, true, false, List, Some, None, Ok, Err, Option, Result}
+use Rattle.std.specs.List.{filter_map}
 use Rattle.flash.specs.declared.chunks.Record.{Record}
 use Rattle.rules.specs.declared.rows.Row.{Row}
 use Rattle.reading.specs.Sizes.{length_of, size_of}
@@ -16,23 +17,12 @@ size_answer false m = Err BadObject
 size_answer true None = Err NotPresent
 size_answer true (Some n) = Ok (narrowed n)
 
--- a row, if there is one
-abbrev pub row_if : Option Row → List Row
-row_if None = []
-row_if (Some x) = x ∷ []
-
 -- the row of an object that has a length and a size
-abbrev pub row_by : ℕ → Option ℕ → Option ℕ → List Row
-row_by o None m = []
-row_by o (Some l) None = []
-row_by o (Some l) (Some n) = record { object = o; length = l; size = narrowed n } ∷ []
+abbrev pub row_by : ℕ → Option ℕ → Option ℕ → Option Row
+row_by o None m = None
+row_by o (Some l) None = None
+row_by o (Some l) (Some n) = Some (record { object = o; length = l; size = narrowed n })
 
 -- the rows of objects, one after the other
 abbrev pub table_rows : List Record → List ℕ → List Row
-table_rows rs [] = []
-table_rows rs (o ∷ os) = row_by o (length_of rs o) (size_of rs o) ++ table_rows rs os
-
--- rows with one more at its place, or none
-abbrev pub laid_at : List Row → ℕ → List Row → List Row
-laid_at xs at [] = xs
-laid_at xs at (y ∷ ys) = slice_set xs at y
+table_rows rs os = filter_map (λ o. row_by o (length_of rs o) (size_of rs o)) os

@@ -4,30 +4,28 @@ ghost use Rattle.rules.specs.Refusals.{size_table};
 ghost use Rattle.scan.specs.Indexes.{Knows};
 ghost use Rattle.questions.specs.Questions.{asked, Answered, OfFile, FindAnswered, SizeAnswered, ReadAnswered, ListAnswered};
 
-use crate::lists::{FIRST, LAST, count_rows, list_into, size_of};
+use crate::lists::{count_rows, list_into, size_of};
 use crate::reads::read_from;
 use flash::Chip;
-use rules::Row;
+use rules::{Row, is_name, is_object};
 use scan::{Index, Refusal};
-
-// How long a name may be.
-const LONGEST: usize = 40;
 
 // The object of the file that has the name, if there is one.
 pub fn find(index: &Index, name: &[u8]) -> Result<Option<u32>, Refusal>
     ensures { (s : State) → Knows (view_of s) index.now → FindAnswered (asked s) name.now result }
 {
-    if name.is_empty() || name.len() > LONGEST {
+    if !is_name(name) {
         return Err(Refusal::BadName);
     }
     Ok(index.names.find(name))
 }
 
 // The name of a file.
+#[tactic(auto, using(crate::proofs::Asking::same_name, crate::proofs::Asking::present_if))]
 pub fn name(index: &Index, object: u32) -> Result<&[u8], Refusal>
     ensures { (s : State) → Knows (view_of s) index.now → Answered (size_table (asked s) object) result (λ name. OfFile (asked s) object (λ f. name.now ≡ f.name)) (Unit {0}) }
 {
-    if object < FIRST || object > LAST {
+    if !is_object(object) {
         return Err(Refusal::BadObject);
     }
     if !index.names.is_there(object) {
@@ -37,6 +35,7 @@ pub fn name(index: &Index, object: u32) -> Result<&[u8], Refusal>
 }
 
 // How many bytes a file has.
+#[tactic(auto, using(crate::proofs::Asking::size_told))]
 pub fn size(index: &Index, object: u32) -> Result<u32, Refusal>
     ensures { (s : State) → Knows (view_of s) index.now → SizeAnswered (asked s) object result }
 {
@@ -61,12 +60,15 @@ pub fn read<C: Chip>(
 }
 
 // Writes a row for each file, by rising object number, and answers their number. The rows beyond them stay.
+#[tactic(auto, using(crate::proofs::Knowing::rows_told))]
 pub fn list(index: &Index, rows: &mut [Row]) -> Result<usize, Refusal>
     ensures { (s : State) → Knows (view_of s) index.now → ListAnswered (asked s) rows.old result rows.new }
 {
     let looks = index.looks();
-    if rows.len() < count_rows(looks) {
+    let count = count_rows(looks);
+    if rows.len() < count {
         return Err(Refusal::FewRows);
     }
-    Ok(list_into(looks, rows))
+    list_into(looks, rows);
+    Ok(count)
 }

@@ -1,12 +1,11 @@
-ghost use Rattle.std.specs.Prelude.{◌≡◌, ◌-◌, ◌*◌};
+ghost use Rattle.std.specs.Prelude.{◌≡◌};
 ghost use Rattle.flash.specs.Model.{State, view_of};
 ghost use Rattle.scan.specs.Indexes.{stands_in, Knows};
 ghost use Rattle.questions.specs.Counts.{Counted};
 
 use crate::lists::count_rows;
-use flash::Sizes;
 use places::count_standing;
-use rules::Standing;
+use rules::{Standing, limit};
 use scan::Index;
 use table::used;
 use tags::highest_serial;
@@ -21,14 +20,8 @@ pub struct Totals {
     pub serial: u32,
 }
 
-// How many chunks the files may use.
-fn limit(sizes: Sizes) -> usize
-    ensures { result ≡ (sizes.blocks - 1) * sizes.chunks - 1 }
-{
-    (sizes.blocks.saturating_sub(1) as usize * sizes.chunks as usize).saturating_sub(1)
-}
-
 // Counts what there is.
+#[tactic(auto, using(crate::proofs::Counting::used_known, crate::proofs::Counting::serial_known, crate::proofs::Counting::files_known))]
 pub fn count_all(index: &Index) -> Totals
     ensures { (s : State) → Knows (view_of s) index.now → Counted s (stands_in index.now) result }
 {

@@ -8,11 +8,9 @@ ghost use Rattle.questions.specs.Reads.{HasRow, Stands, counted_at, ChunkRead, R
 
 use flash::{Chip, Fault, Place};
 use reading::chunk;
+use rules::CHUNK_BYTES;
 use scan::Index;
 use tags::Found;
-
-// How many data bytes a chunk has.
-const CHUNK: usize = 2048;
 
 // What an absent byte reads as.
 const ABSENT: u8 = 0;
@@ -43,13 +41,13 @@ fn copy_chunk<C: Chip>(
     ensures count { IfOk result (λ n. n ≡ min (length part.old) (2048 - offset)) }
     ensures bytes { (C.Chip.model chip.now).on ≡ true → Sized (C.Chip.model chip.now) index.now.sizes → Stands (C.Chip.model chip.now) found → ChunkRead (counted_at (C.Chip.model chip.now) found) offset part.old result part.new }
 {
-    let mut bytes = [ABSENT; CHUNK];
+    let mut bytes = [ABSENT; CHUNK_BYTES];
     if let Some(found) = found {
         chip.fetch(place_of(index, found), &mut bytes)?;
-        let counted = CHUNK.min(found.tag.third as usize);
+        let counted = CHUNK_BYTES.min(found.tag.third as usize);
         bytes[counted..].fill(ABSENT);
     }
-    let count = part.len().min(CHUNK - offset);
+    let count = part.len().min(CHUNK_BYTES - offset);
     part[0..count].copy_from_slice(&bytes[offset..offset + count]);
     Ok(count)
 }
@@ -73,8 +71,14 @@ pub(crate) fn read_from<C: Chip>(
     let mut at = 0;
     while at < count {
         let here = position as usize + at;
-        let found = chunk(rows, object, (here / CHUNK + 1) as u32);
-        at += copy_chunk(chip, index, found, here % CHUNK, &mut buffer[at..count])?;
+        let found = chunk(rows, object, (here / CHUNK_BYTES + 1) as u32);
+        at += copy_chunk(
+            chip,
+            index,
+            found,
+            here % CHUNK_BYTES,
+            &mut buffer[at..count],
+        )?;
     }
     Ok(count)
 }

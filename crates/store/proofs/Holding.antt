@@ -9,5 +9,5 @@ all-false zero k = refl
 all-false (suc n) zero = refl
 all-false (suc n) (suc k) = all-false n k
 
-pub none-are : (k : ℕ) → held_at (replicate 255 false) k ≡ false
-none-are k = and_right (within 257 511 k) _ (all-false 255 (k - 257))
+pub none_are : (k : ℕ) → held_at (replicate 255 false) k ≡ false
+none_are k = and_right (within 257 511 k) _ (all-false 255 (k - 257))

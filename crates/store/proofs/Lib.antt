@@ -1,3 +1,2 @@
-pub mod Sounding
 pub mod Holding
 pub mod Mounting

@@ -12,13 +12,13 @@ use Rattle.scan.proofs.Accepting.{blocks-started}
 same_blocks : (s m : State) → m ≡ started s → blocks_of m ≡ blocks_of s
 same_blocks s m e = ap blocks_of e ∙ blocks-started s
 
-pub flash-mounted : (s m : State) (x : Index) → m ≡ started s → Knows (view_of m) x → ◌≡◌ {A = Flash} (record { blocks = blocks_of m; stand = take m.n (vec_items x.standings) }) (mounted (blocks_of s))
-flash-mounted s m x e k =
+pub flash_mounted : (s m : State) (x : Index) → m ≡ started s → Knows (view_of m) x → ◌≡◌ {A = Flash} (record { blocks = blocks_of m; stand = take m.n (vec_items x.standings) }) (mounted (blocks_of s))
+flash_mounted s m x e k =
     ap {B = Flash} (λ (xs : List Standing). record { blocks = blocks_of m; stand = xs }) (ap (λ (i : ℕ). take i (vec_items x.standings)) (sym k.blocks) ∙ k.standings)
     ∙ ap mounted (same_blocks s m e)
 
-pub flash-same : (s m : State) (xs ys : List Standing) → m ≡ started s → ys ≡ xs → ◌≡◌ {A = Flash} (record { blocks = blocks_of m; stand = take m.n ys }) (record { blocks = blocks_of s; stand = take s.n xs })
-flash-same s m xs ys e h =
+pub flash_same : (s m : State) (xs ys : List Standing) → m ≡ started s → ys ≡ xs → ◌≡◌ {A = Flash} (record { blocks = blocks_of m; stand = take m.n ys }) (record { blocks = blocks_of s; stand = take s.n xs })
+flash_same s m xs ys e h =
     ap {B = Flash} (λ (bs : List (List Chunk)). record { blocks = bs; stand = take m.n ys }) (same_blocks s m e)
     ∙ ap {B = Flash} (λ (i : ℕ). record { blocks = blocks_of s; stand = take i ys }) (ap (λ (t : State). t.n) e)
     ∙ ap {B = Flash} (λ (zs : List Standing). record { blocks = blocks_of s; stand = take s.n zs }) h

@@ -5,7 +5,8 @@ ghost use Rattle.scan.specs.declared.refusals.Refusal.TheVariants.{Stopped};
 ghost use Rattle.scan.specs.Indexes.{stands_in, Knows};
 ghost use Rattle.questions.specs.Counts.{Counted};
 ghost use Rattle.questions.specs.Questions.{Answered, OfFile, FindAnswered, SizeAnswered, ReadAnswered, ListAnswered};
-ghost use Rattle.store.specs.Stores.{store_of, running_table};
+ghost use Rattle.store.specs.Stores.{running_table};
+ghost use Rattle.store.specs.Stored.{stored};
 
 use crate::stores::Store;
 use flash::Chip;
@@ -21,27 +22,26 @@ impl<C: Chip> Store<C> {
         if !self.running {
             return Err(Refusal::Stopped);
         }
-        self.tie.tell();
         Ok(&self.index)
     }
 
     // The object of the file that has the name, if there is one.
     pub fn find(&self, name: &[u8]) -> Result<Option<u32>, Refusal>
-        ensures { FindAnswered (store_of (C.Chip.model self.now.chip) self.now.running self.now.held self.now.index.standings.items) name.now result }
+        ensures { FindAnswered (stored self.now) name.now result }
     {
         questions::find(self.known()?, name)
     }
 
     // The name of a file.
     pub fn name(&self, object: u32) -> Result<&[u8], Refusal>
-        ensures { Answered (size_table (store_of (C.Chip.model self.now.chip) self.now.running self.now.held self.now.index.standings.items) object) result (λ name. OfFile (store_of (C.Chip.model self.now.chip) self.now.running self.now.held self.now.index.standings.items) object (λ f. name.now ≡ f.name)) (Unit {0}) }
+        ensures { Answered (size_table (stored self.now) object) result (λ name. OfFile (stored self.now) object (λ f. name.now ≡ f.name)) (Unit {0}) }
     {
         questions::name(self.known()?, object)
     }
 
     // How many bytes a file has.
     pub fn size(&self, object: u32) -> Result<u32, Refusal>
-        ensures { SizeAnswered (store_of (C.Chip.model self.now.chip) self.now.running self.now.held self.now.index.standings.items) object result }
+        ensures { SizeAnswered (stored self.now) object result }
     {
         questions::size(self.known()?, object)
     }
@@ -49,21 +49,21 @@ impl<C: Chip> Store<C> {
     // Reads the bytes of a file from a position on, as many as the buffer holds or the size allows, and answers their
     // number. The bytes of the buffer beyond them stay.
     pub fn read(&self, object: u32, position: u64, buffer: &mut [u8]) -> Result<usize, Refusal>
-        ensures { ReadAnswered (store_of (C.Chip.model self.now.chip) self.now.running self.now.held self.now.index.standings.items) object position buffer.old result buffer.new }
+        ensures { ReadAnswered (stored self.now) object position buffer.old result buffer.new }
     {
         questions::read(self.known()?, &self.chip, object, position, buffer)
     }
 
     // Writes a row for each file, by rising object number, and answers their number. The rows beyond them stay.
     pub fn list(&self, rows: &mut [Row]) -> Result<usize, Refusal>
-        ensures { ListAnswered (store_of (C.Chip.model self.now.chip) self.now.running self.now.held self.now.index.standings.items) rows.old result rows.new }
+        ensures { ListAnswered (stored self.now) rows.old result rows.new }
     {
         questions::list(self.known()?, rows)
     }
 
     // Counts what there is on the chip.
     pub fn count_all(&self) -> Result<Totals, Refusal>
-        ensures { Answered (running_table (store_of (C.Chip.model self.now.chip) self.now.running self.now.held self.now.index.standings.items)) result (λ t. Counted (C.Chip.model self.now.chip) (stands_in self.now.index) t) (Unit {0}) }
+        ensures { Answered (running_table (stored self.now)) result (λ t. Counted (C.Chip.model self.now.chip) (stands_in self.now.index) t) (Unit {0}) }
     {
         Ok(questions::count_all(self.known()?))
     }

@@ -3,14 +3,16 @@ ghost use Rattle.flash.specs.Model.{started, blocks_of};
 ghost use Rattle.rules.specs.Mounting.{verdict, mounted};
 ghost use Rattle.scan.specs.Formats.{Formatted};
 ghost use Rattle.scan.specs.Mounts.{verdict_of, runs};
-ghost use Rattle.store.specs.Stores.{NoneHeld, store_of, LeftByMount};
+ghost use Rattle.store.specs.Stores.{NoneHeld, LeftByMount};
+ghost use Rattle.store.specs.Stored.{stored};
 
 use crate::stores::Store;
-use flash::{Chip, Tie};
+use flash::Chip;
 use scan::{Index, Refusal};
 use std::alloc::Global;
 
 // No file is open.
+#[tactic(auto, using(crate::proofs::Holding::none_are))]
 fn none_held() -> [bool; 255]
     ensures { NoneHeld result }
 {
@@ -28,36 +30,22 @@ impl<C: Chip> Store<C> {
     pub fn attach(heap: Global, chip: C) -> Result<Store<C>, Unattached<C>>
         ensures { MatchResult result (λ s. (s.chip ≡ chip) × (s.running ≡ false) × NoneHeld s.held) (λ e. e.chip ≡ chip) }
     {
-        match Index::new(heap) {
-            Ok(index) => {
-                let tie = Tie::new(&chip);
-                let held = none_held();
-                Ok(Store {
-                    chip,
-                    tie,
-                    index,
-                    held,
-                    running: false,
-                })
-            }
-            Err(_) => Err(Unattached { chip }),
-        }
+        let Ok(index) = Index::new(heap) else {
+            return Err(Unattached { chip });
+        };
+        Ok(Store {
+            chip,
+            index,
+            held: none_held(),
+            running: false,
+        })
     }
 
     // Ends the store and gives the chip back.
     pub fn release(self) -> C
         ensures { result ≡ self.chip }
     {
-        let Store {
-            chip,
-            tie,
-            index,
-            held: _,
-            running: _,
-        } = self;
-        drop(tie);
-        drop(index);
-        chip
+        self.chip
     }
 
     // Restarts the chip and erases each block that is not blank. The store is stopped then, and no file is open.
@@ -67,24 +55,21 @@ impl<C: Chip> Store<C> {
     {
         self.running = false;
         self.held = none_held();
-        let done = scan::format(&mut self.chip);
-        self.tie = Tie::new(&self.chip);
-        done
+        scan::format(&mut self.chip)
     }
 
     // Restarts the chip, scans it and checks what it holds. Accepted, the store runs; in any case no file is open.
+    #[tactic(auto, using(crate::proofs::Mounting::flash_mounted, crate::proofs::Mounting::flash_same))]
     pub fn mount(&mut self) -> Result<(), Refusal>
         ensures chip { C.Chip.model self.new.chip ≡ started (C.Chip.model self.old.chip) }
         ensures answers { verdict_of result ≡ verdict (C.Chip.model self.old.chip).n (C.Chip.model self.old.chip).p (blocks_of (C.Chip.model self.old.chip)) }
         ensures runs { (self.new.running ≡ runs result) × NoneHeld self.new.held }
-        ensures stands { runs result ≡ true → (store_of (C.Chip.model self.new.chip) self.new.running self.new.held self.new.index.standings.items).flash ≡ mounted (blocks_of (C.Chip.model self.old.chip)) }
-        ensures leaves { LeftByMount (store_of (C.Chip.model self.old.chip) self.old.running self.old.held self.old.index.standings.items) result (store_of (C.Chip.model self.new.chip) self.new.running self.new.held self.new.index.standings.items) }
+        ensures stands { runs result ≡ true → (stored self.new).flash ≡ mounted (blocks_of (C.Chip.model self.old.chip)) }
+        ensures leaves { LeftByMount (stored self.old) result (stored self.new) }
     {
         self.running = false;
         self.held = none_held();
-        let done = self.index.mount(&mut self.chip);
-        self.tie = Tie::new(&self.chip);
-        done?;
+        self.index.mount(&mut self.chip)?;
         self.running = true;
         Ok(())
     }

@@ -1,20 +1,17 @@
 ghost use Rattle.std.specs.Prelude.{◌≡◌, true};
-ghost use Rattle.flash.specs.Coding.{told};
-ghost use Rattle.names.specs.Names.{bytes_of};
-ghost use Rattle.store.specs.Sound.{sized_as, sound};
+ghost use Rattle.flash.specs.Model.{view_of};
+ghost use Rattle.scan.specs.Indexes.{Knows};
 
-use flash::{Chip, Tie};
+use flash::Chip;
 use scan::Index;
 
-// A chip; while the store runs, what is known of it; and which files are open.
+// A chip; while the store runs, what is known of it; and which files are open. A stopped store keeps its index, since attach
+// alone takes memory: so `running` stands beside it, and there is no Option. For the same reason `held` is an array.
 #[derive(Drop)]
 pub struct Store<C: Chip> {
     pub(crate) chip: C,
-    pub(crate) tie: Tie<C>,
     pub(crate) index: Index,
     pub(crate) held: [bool; 255],
     pub(crate) running: bool,
-    ghost same: { tie.of ≡ chip },
-    ghost sized: { sized_as running (told tie.coded) index.sizes ≡ true },
-    ghost sure: { sound running (told tie.coded) index.rows.items index.standings.items (bytes_of index.names) ≡ true },
+    ghost known: { running ≡ true → Knows (view_of (C.Chip.model chip)) index },
 }

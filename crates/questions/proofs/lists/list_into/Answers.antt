@@ -1,48 +1,36 @@
-use Rattle.std.proofs.Common.{ℕ, ◌+◌, ◌<◌, ◌≤◌, List, ◌++◌, length, take, drop, sym, refl, ap, ◌∙◌, arith}
-use Rattle.rules.specs.declared.rows.Row.{Row}
+use Rattle.std.proofs.Common.{◌≡◌, ℕ, ◌<◌, length, refl, arith, rules}
+use borrow.Author.Tests.{tests}
+use Rattle.std.proofs.lemmas.Iterator.Consumers.{YieldsList-at, YieldsList-from_enumerate, YieldsList-from_filter_map}
 use Rattle.rules.specs.Calls.{objects}
+use Rattle.reading.specs.Sizes.{length_of, size_of}
 use Rattle.tags.specs.Bare.{records}
-use Rattle.questions.specs.Lists.{row_if, table_rows, laid_at}
-use Rattle.questions.proofs.Listing.{objects_from, rest_more, rest-long, rest_end, rest_all, laid_more, beyond-more, laid_end}
+use Rattle.questions.specs.Lists.{row_by, table_rows}
+use Rattle.questions.proofs.Listing.{objects_yielded, row_turn, rows_end, laid_one, laid_all}
 use Rattle.questions.proofs.lists.list_into.Goals as goal
 
-pub loop-object-init : goal.loop-object-init
-loop-object-init c = (omega (arith, ap length (rest_all (records c.args.looks.now))), rest_all (records c.args.looks.now), refl)
+pub loop-at-init : goal.loop-at-init
+loop-at-init c = refl
 
-pub put_row-at-requires : goal.put_row-at-requires
-put_row-at-requires c =
-    let o = c.loop-object.object in
-    let h : o < 512 = omega arith in
-    omega (arith, c.loop-object.invariant.0, rest-long (records c.args.looks.now) o h c.row_of.result c.row_of.ensures, c.requires, c.loop-object.auto.rows)
-
-pub loop-object-preserved : goal.loop-object-preserved
-loop-object-preserved c =
+turn : (c : goal.After-row-1) → (c.in-Some.at ≡ length c.loop-at.yielded) × (length c.loop-at.yielded < length (table_rows (records c.args.looks.now) objects))
+turn c =
     let rs = records c.args.looks.now in
-    let o = c.loop-object.object in
-    let at = c.loop-object.at in
-    let xs = c.loop-object.rows in
-    let m = c.row_of.result in
-    let h : o < 512 = omega arith in
-    let long = rest-long rs o h m c.row_of.ensures in
-    let more = rest_more rs o h m c.row_of.ensures in
-    let fits : at + length (row_if m) ≤ length xs = omega (arith, c.loop-object.invariant.0, long, c.requires, c.loop-object.auto.rows) in
-    let next = c.put_row-at.ensures.next in
-    let laid = c.put_row-at.ensures.laid in (
-      omega (arith, next, long, c.loop-object.invariant.0),
-      ap (λ (ys : List Row). take c.put_row-at.result ys ++ table_rows rs (objects_from (o + 1))) laid
-          ∙ ap (λ (k : ℕ). take k (laid_at xs at (row_if m)) ++ table_rows rs (objects_from (o + 1))) next
-          ∙ laid_more m xs (table_rows rs (objects_from (o + 1))) (table_rows rs objects) at fits (ap (λ (ys : List Row). take at xs ++ ys) (sym more) ∙ c.loop-object.invariant.1),
-      ap (drop c.put_row-at.result) laid
-          ∙ ap (λ (k : ℕ). drop k (laid_at xs at (row_if m))) next
-          ∙ beyond-more m xs c.args.rows.now at c.loop-object.invariant.2
-          ∙ ap (λ (k : ℕ). drop k c.args.rows.now) (sym next),
-    )
+    row_turn _ _ _ (table_rows rs objects) c.loop-at.yielded c.loop-at.yielded_by _ c.next.ensures.steps (c.in-Some.at, c.in-Some.row) c.in-Some.is
+    (YieldsList-at c.into_iter-at-iterator.ensures.into_iter_gives (YieldsList-from_enumerate (YieldsList-at c.enumerate-at-items.ensures.source
+    (YieldsList-from_filter_map _ (λ (o : ℕ). row_by o (length_of rs o) (size_of rs o)) (YieldsList-at c.filter_map-files.ensures.source (objects_yielded c.new.result c.new.ensures.start c.new.ensures.end c.new.ensures.exhausted))
+    c.filter_map-files.ensures.closure (λ y r q k. search (rules, tests)))) (cc)))
+
+pub bounds-rows-at : goal.bounds-rows-at
+bounds-rows-at c = omega (arith, turn c, c.requires, c.loop-at.auto.rows)
+
+pub loop-at-preserved : goal.loop-at-preserved
+loop-at-preserved c = laid_one c.loop-at.rows c.args.rows.now c.loop-at.yielded c.in-Some.at c.in-Some.row (turn c).0 (omega (arith, turn c, c.requires)) c.loop-at.invariant
 
 pub returns : goal.returns
 returns c =
     let rs = records c.args.looks.now in
-    let end = rest_end rs c.loop-object.object c.loop-object-test.false in
-    record {
-      count = omega (arith, c.loop-object.invariant.0, ap length end);
-      rows = laid_end c.loop-object.rows c.args.rows.now (table_rows rs objects) c.loop-object.at (ap (λ (ys : List Row). take c.loop-object.at c.loop-object.rows ++ ys) (sym end) ∙ c.loop-object.invariant.1) c.loop-object.invariant.2;
-    }
+    laid_all c.loop-at.rows c.args.rows.now (table_rows rs objects) c.loop-at.yielded
+    (rows_end _ _ _ (table_rows rs objects) c.loop-at.yielded c.loop-at.yielded_by _ c.next.ensures.steps c.in-None.is
+    (YieldsList-at c.into_iter-at-iterator.ensures.into_iter_gives (YieldsList-from_enumerate (YieldsList-at c.enumerate-at-items.ensures.source
+    (YieldsList-from_filter_map _ (λ (o : ℕ). row_by o (length_of rs o) (size_of rs o)) (YieldsList-at c.filter_map-files.ensures.source (objects_yielded c.new.result c.new.ensures.start c.new.ensures.end c.new.ensures.exhausted))
+    c.filter_map-files.ensures.closure (λ y r q k. search (rules, tests)))) (cc))))
+    c.loop-at.invariant

@@ -1,12 +1,5 @@
-use Rattle.std.proofs.Common.{◌≡◌, ◌+◌, ◌++◌, length, take, drop}
-use Rattle.rules.specs.Calls.{objects}
-use Rattle.tags.specs.Bare.{records}
-use Rattle.questions.specs.Lists.{table_rows}
-use Rattle.questions.proofs.Listing.{objects_from}
+use Rattle.std.proofs.Common.{◌≡◌, ◌++◌, map, length, drop}
 use Rattle.questions.proofs.lists.list_into.Given as goal
 
-abbrev pub invariant-loop-object : goal.invariant-loop-object
-invariant-loop-object l =
-    (l.at + length (table_rows (records l.looks) (objects_from l.object)) ≡ length (table_rows (records l.looks) objects))
-    × (take l.at l.rows ++ table_rows (records l.looks) (objects_from l.object) ≡ table_rows (records l.looks) objects)
-    × (drop l.at l.rows ≡ drop l.at l.initial.rows)
+abbrev pub invariant-loop-at : goal.invariant-loop-at
+invariant-loop-at l = l.rows ≡ map (λ p. p.1) l.yielded ++ drop (length l.yielded) l.initial.rows
