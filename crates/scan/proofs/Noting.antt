@@ -8,9 +8,8 @@ use Rattle.flash.specs.declared.chunks.Tag.{Tag}
 use Rattle.flash.specs.Model.{State}
 use Rattle.rules.specs.Lists.{within}
 use Rattle.rules.specs.Records.{kind, kind_by, is_header, object, first_byte}
-use Rattle.rules.specs.Reading.{in_file}
-use Rattle.tags.specs.Bare.{bare_tag, records}
-use Rattle.names.specs.Names.{name_at, name_from, Noted}
+use Rattle.tags.specs.Bare.{bare_tag}
+use Rattle.names.specs.Names.{name_at, name_from}
 use Rattle.scan.specs.Checks.{filed_by, FirstOf}
 use Rattle.scan.specs.Tables.{HasData}
 use Rattle.scan.specs.Tables.{row_of}

@@ -1,25 +1,19 @@
 -- One row checked, and all rows. Assumes nothing.
-use Rattle.std.proofs.Common.{◌≡◌, ℕ, ◌+◌, ◌*◌, ◌/◌, ◌%◌, ◌<◌, ◌≤◌, Bool, true, false, ◌≢◌, List, [], ◌∷◌, length, get_or, drop, None, Ok, Option, sym, refl, ap, ◌∙◌, ⊎_elim, arith}
+use Rattle.std.proofs.Common.{◌≡◌, ℕ, ◌+◌, ◌<◌, ◌≤◌, Bool, ◌≢◌, List, length, get_or, drop, None, Ok, Option, sym, refl, ap, ◌∙◌, ⊎_elim, arith}
 use Rattle.std.proofs.lemmas.List.{at_drop_more, at_drop_all}
 use Rattle.std.proofs.lemmas.Bool.{cases_eq}
 use Rattle.flash.specs.declared.chunks.Chunk.{Chunk}
 use Rattle.flash.specs.declared.chunks.Chunk.TheVariants.{Blank, Damaged, Holds}
 use Rattle.flash.specs.declared.chunks.Look.{Look}
-use Rattle.flash.specs.declared.chunks.Look.TheVariants.{Blank as BlankL, Damaged as DamagedL, Record as RecordL}
-use Rattle.flash.specs.declared.chunks.Place.{Place}
+use Rattle.flash.specs.declared.chunks.Look.TheVariants.{Blank as BlankL, Record as RecordL}
 use Rattle.flash.specs.declared.chunks.Record.{Record}
 use Rattle.flash.specs.declared.chunks.Sizes.{Sizes}
 use Rattle.flash.specs.declared.chunks.Tag.{Tag}
-use Rattle.flash.specs.Chunks.{look_of}
 use Rattle.flash.specs.Model.{State, blocks_of}
-use Rattle.flash.specs.Reads.{Within}
-use Rattle.rules.specs.Records.{keeps_rules}
 use Rattle.names.specs.Names.{name_at}
-use Rattle.scan.specs.declared.refusals.Refusal.TheVariants.{BadRecord}
 use Rattle.scan.specs.Flat.{flat}
 use Rattle.scan.specs.Tables.{TableOf, row_of}
 use Rattle.scan.specs.Checks.{filed_by, note_of, noted, RowChecked, AllChecked, KeepTo}
-use Rattle.scan.proofs.Rows.{row_block, row-chunk}
 use Rattle.scan.proofs.Flat.{flat-long}
 use Rattle.scan.proofs.Telling.{rows_long, untold}
 

@@ -1,7 +1,7 @@
 -- The rows of a block, and how it stands. Assumes nothing.
-use Rattle.std.proofs.Common.{◌≡◌, ℕ, ◌+◌, ◌-◌, ◌*◌, ◌<◌, ◌≤◌, List, [], ◌∷◌, length, get_or, take, drop, map, Bool, Decides, sym, refl, ap, ◌∙◌, arith, mul-le-mul_right, length-take, length-drop, get_or-take, get_or-drop}
+use Rattle.std.proofs.Common.{◌≡◌, ℕ, ◌+◌, ◌-◌, ◌*◌, ◌<◌, ◌≤◌, List, [], ◌∷◌, length, get_or, take, drop, Bool, Decides, sym, refl, ap, ◌∙◌, arith, mul-le-mul_right, length-take, length-drop, get_or-take, get_or-drop}
 use Rattle.std.specs.List.{All}
-use Rattle.std.proofs.lemmas.List.{ext_get_or, length-map, get_or-map}
+use Rattle.std.proofs.lemmas.List.{ext_get_or}
 use Rattle.std.proofs.lemmas.List.Elements.{All-nil, All-cons, All-head, All-tail}
 use Rattle.std.proofs.lemmas.Bool.{false≢true}
 use Rattle.std.proofs.lemmas.Bool.Decides.{same_from_decides}
@@ -12,10 +12,8 @@ use Rattle.flash.specs.declared.chunks.Look.TheVariants.{Blank as BlankL, Damage
 use Rattle.flash.specs.declared.chunks.Sizes.{Sizes}
 use Rattle.flash.specs.Chunks.{look_of}
 use Rattle.flash.specs.Model.{State, blocks_of}
-use Rattle.flash.proofs.Views.{blocks-count, block-length, cell_at}
-use Rattle.rules.specs.declared.standings.Standing.{Standing}
-use Rattle.rules.specs.declared.standings.Standing.TheVariants.{Blank as blank_s}
-use Rattle.rules.specs.Mounting.{blank_block, mounted_block}
+use Rattle.flash.proofs.Views.{block-length, cell_at}
+use Rattle.rules.specs.Mounting.{blank_block}
 use Rattle.scan.specs.Flat.{looks}
 use Rattle.scan.specs.Tables.{TableOf}
 use Rattle.scan.proofs.Flat.{flat-cell, looks_long, looks-at}

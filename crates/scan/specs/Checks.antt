@@ -11,7 +11,7 @@ use Rattle.flash.specs.Model.{State, blocks_of}
 use Rattle.rules.specs.Lists.{within}
 use Rattle.rules.specs.Records.{kind, is_header, object, first_byte, keeps_rules}
 use Rattle.rules.specs.Reading.{in_file}
-use Rattle.tags.specs.Bare.{bare_tag, bare, records}
+use Rattle.tags.specs.Bare.{bare, records}
 use Rattle.names.specs.Names.{name_at, name_from}
 use Rattle.scan.specs.declared.refusals.Refusal.{Refusal}
 use Rattle.scan.specs.declared.refusals.Refusal.TheVariants.{BadRecord}

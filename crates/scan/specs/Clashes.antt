@@ -1,16 +1,10 @@
 -- Unlike records with one serial: where the first one stands that is unlike an earlier one. Assumes nothing.
-use Rattle.std.specs.Prelude.{◌≡◌, ℕ, Bool, false, ◌⊎◌, [], take, Some, None, Ok, Err, Decides, Option, Result}
+use Rattle.std.specs.Prelude.{◌≡◌, ℕ, Bool, false, [], take, Some, None, Ok, Err, Option, Result}
 use Rattle.flash.specs.declared.chunks.Chunk.{Chunk}
 use Rattle.flash.specs.declared.chunks.Chunk.TheVariants.{Blank, Damaged, Holds}
-use Rattle.flash.specs.declared.chunks.Look.{Look}
-use Rattle.flash.specs.declared.chunks.Look.TheVariants.{Record as RecordL}
 use Rattle.flash.specs.declared.chunks.Place.{Place}
-use Rattle.flash.specs.declared.chunks.Record.{Record}
-use Rattle.flash.specs.declared.chunks.Tag.{Tag}
 use Rattle.flash.specs.declared.faults.Fault.{Fault}
-use Rattle.flash.specs.Chunks.{look_of}
 use Rattle.flash.specs.Model.{State, blocks_of}
-use Rattle.flash.specs.Reads.{NotFetched}
 use Rattle.rules.specs.Lists.{any}
 use Rattle.rules.specs.Mounting.{unlike, placed, first_clash}
 use Rattle.scan.specs.Flat.{flat}

@@ -1,5 +1,5 @@
 -- What format leaves of a chip. Assumes nothing.
-use Rattle.std.specs.Prelude.{◌≡◌, ℕ, ◌<◌, true, false, ◌⊎◌, Bool, Ok, Err, Decides, Result}
+use Rattle.std.specs.Prelude.{◌≡◌, ℕ, ◌<◌, true, false, Bool, Ok, Err, Decides, Result}
 use Rattle.flash.specs.declared.chunks.Chunk.TheVariants.{Blank}
 use Rattle.flash.specs.declared.faults.Act.{Act}
 use Rattle.flash.specs.declared.faults.Act.TheVariants.{Adding, Copying, Erasing}

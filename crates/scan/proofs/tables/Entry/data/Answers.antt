@@ -1,5 +1,4 @@
 use Rattle.std.proofs.Common.{◌≡◌}
-use Rattle.flash.specs.declared.chunks.Record.{Record}
 use Rattle.scan.proofs.Telling.{told, fetched}
 use Rattle.scan.proofs.tables.Entry.data.Goals as goal
 

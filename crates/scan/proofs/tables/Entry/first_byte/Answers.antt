@@ -1,4 +1,4 @@
-use Rattle.std.proofs.Common.{◌≡◌, sym, refl, ap, ◌∙◌, subst}
+use Rattle.std.proofs.Common.{refl, ap, ◌∙◌}
 use Rattle.rules.specs.Records.{is_header}
 use Rattle.names.specs.Names.{bytes_of}
 use Rattle.scan.proofs.Telling.{told}

@@ -1,6 +1,5 @@
 use Rattle.std.proofs.lemmas.Result.{err_from_is_err_and}
 use Rattle.names.specs.Names.{bytes_of}
-use Rattle.scan.specs.Tables.{TableOf}
 use Rattle.scan.proofs.Examining.{passed, broken-rule, serial-clash, mirror, same-names, too-large, no-way, accepted}
 use Rattle.scan.proofs.tables.Scan.examine.Goals as goal
 

@@ -1,6 +1,4 @@
-use Rattle.std.proofs.Common.{◌≡◌, ◌<◌, ◌≤◌, false, sym, ◌∙◌, arith, rules, length-take}
-use Rattle.flash.specs.Model.{blocks_of}
-use Rattle.scan.specs.Flat.{flat}
+use Rattle.std.proofs.Common.{◌≡◌, false, sym, ◌∙◌, arith, rules}
 use Rattle.scan.specs.Clashes.{clashes_to}
 use Rattle.scan.proofs.Telling.{told, untold, rows_long}
 use Rattle.scan.proofs.Clashing.{none-clash, first-clash-none, first-clash-some}
