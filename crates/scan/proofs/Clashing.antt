@@ -1,84 +1,83 @@
--- Rows that clash, by their tags and data, and the first place that clashes with an earlier one. Assumes nothing.
-use Rattle.std.proofs.Common.{◌≡◌, ℕ, zero, suc, ◌+◌, ◌*◌, ◌/◌, ◌%◌, ◌<◌, Bool, true, false, not, ◌||◌, eqb, List, [], ◌∷◌, ◌++◌, length, get_or, take, Some, None, Decides, sym, refl, ap, ◌∙◌, subst, ⊎_elim, arith}
-use Rattle.std.proofs.lemmas.List.{take_more}
-use Rattle.std.proofs.lemmas.Bool.{both_ways, eq-eqb, or_from, or_parts, or_left, or_right, or_cases}
-use Rattle.std.proofs.lemmas.Bool.Decides.{same_from_decides}
+-- Records that clash, by their tags and data, and the first place that clashes with an earlier one. Assumes nothing.
+use Rattle.std.proofs.Common.{◌≡◌, ℕ, zero, suc, ◌+◌, ◌*◌, ◌/◌, ◌%◌, ◌<◌, Bool, true, false, not, ◌&&◌, ◌||◌, eqb, List, [], ◌∷◌, length, get_or, take, Some, None, refl, ap, ◌∙◌, subst, ⊎_elim, arith}
+use Rattle.std.specs.Str.{bytes_eq}
+use Rattle.rules.specs.Lists.{any, same_bytes}
 use Rattle.flash.specs.declared.chunks.Record.{Record}
 use Rattle.flash.specs.declared.chunks.Tag.{Tag}
-use Rattle.flash.specs.declared.chunks.Sizes.{Sizes}
 use Rattle.flash.specs.declared.chunks.Chunk.{Chunk}
 use Rattle.flash.specs.declared.chunks.Chunk.TheVariants.{Blank, Damaged, Holds}
-use Rattle.flash.specs.declared.chunks.Look.{Look}
-use Rattle.flash.specs.declared.chunks.Look.TheVariants.{Record as RecordL}
-use Rattle.flash.specs.Chunks.{look_of}
+use Rattle.std.proofs.lemmas.List.{length-take-le, get_or-take}
+use Rattle.std.proofs.lemmas.List.Recursion.{or_at, or_from_places}
+use Rattle.std.proofs.lemmas.Bool.{both_ways, or_parts, or_cases}
 use Rattle.flash.specs.Model.{State, blocks_of}
-use Rattle.rules.specs.Lists.{any}
-use Rattle.rules.specs.Mounting.{same_record, unlike, first_clash, placed}
-use Rattle.rules.proofs.Accepts.{rec-true, rec-self}
 use Rattle.scan.specs.Flat.{flat}
-use Rattle.scan.specs.Tables.{TableOf, row_of}
-use Rattle.scan.specs.Clashes.{clashing, clashes_to}
+use Rattle.scan.specs.Tables.{row_of}
 use Rattle.scan.proofs.Flat.{flat-long}
-use Rattle.scan.proofs.Telling.{rows_long}
 use Rattle.scan.proofs.Placed.{placed_from, placed-rows, none_here, some-here, same_place}
+use Rattle.rules.specs.Mounting.{same_record, unlike, first_clash, placed}
+use Rattle.scan.specs.Clashes.{clashing, clashes_to}
 
--- records with the same four numbers clash where their data are not the same
-by-serial : (a b : Record) (z : Bool) → z ≡ true → ◌≡◌ {A = Bool} (elim z [ true ↦ not (same_record a b) | false ↦ false ]) (not (same_record a b))
-by-serial a b true t = refl
-by-serial a b false t = absurd (both_ways false refl t)
+-- two tags are the same
+abbrev pub same_tag : Tag → Tag → Bool
+same_tag t u = eqb t.first u.first && (eqb t.second u.second && (eqb t.third u.third && eqb t.serial u.serial))
 
-same-tags : (a b : Record) → a.tag ≡ b.tag → Decides (same_record a b) (a.bytes ≡ b.bytes)
-same-tags a b e = (
-  λ y. ap (λ (r : Record). r.bytes) (rec-true a b y),
-  λ f. (let g : a ≡ b = λ i. record { tag = e i; bytes = f i } in ap (same_record a) (sym g) ∙ rec-self a),
-)
+bytes-same : (xs ys : List ℕ) → same_bytes xs ys ≡ bytes_eq xs ys
+bytes-same [] [] = refl
+bytes-same [] (y ∷ ys) = refl
+bytes-same (x ∷ xs) [] = refl
+bytes-same (x ∷ xs) (y ∷ ys) = ap (λ (b : Bool). eqb x y && b) (bytes-same xs ys)
 
-by-data : (a b : Record) (v : Bool) → a.tag ≡ b.tag → Decides v (a.bytes ≡ b.bytes) → not v ≡ unlike a b
-by-data a b v e d =
-    ap not (same_from_decides v (same_record a b) d (same-tags a b e))
-    ∙ sym (by-serial a b (eqb a.tag.serial b.tag.serial) (eq-eqb _ _ (ap (λ (g : Tag). g.serial) e)))
+and_four : (a b c d e : Bool) → (a && (b && (c && (d && e)))) ≡ ((a && (b && (c && d))) && e)
+and_four false b c d e = refl
+and_four true false c d e = refl
+and_four true true false d e = refl
+and_four true true true d e = refl
 
-pub clash-by-data : (x y : Chunk) (g : Tag) (v : Bool) → look_of x ≡ RecordL g → look_of y ≡ RecordL g
-    → ((a b : Record) → x ≡ Holds a → y ≡ Holds b → Decides v (a.bytes ≡ b.bytes)) → not v ≡ clashing x y
-clash-by-data Blank y g v e f d = absurd (let o : ◌≡◌ {A = ℕ} 0 1 = cc in omega arith)
-clash-by-data Damaged y g v e f d = absurd (let o : ◌≡◌ {A = ℕ} 0 1 = cc in omega arith)
-clash-by-data (Holds a) Blank g v e f d = absurd (let o : ◌≡◌ {A = ℕ} 0 1 = cc in omega arith)
-clash-by-data (Holds a) Damaged g v e f d = absurd (let o : ◌≡◌ {A = ℕ} 0 1 = cc in omega arith)
-clash-by-data (Holds a) (Holds b) g v e f d = by-data a b v (let o : a.tag ≡ b.tag = cc in o) (d a b refl refl)
+unlike-is : (a b : Record) → unlike a b ≡ (eqb a.tag.serial b.tag.serial && not (same_tag a.tag b.tag && bytes_eq a.bytes b.bytes))
+unlike-is a b = by (eqb a.tag.serial b.tag.serial) ∙ ap (λ (s : Bool). eqb a.tag.serial b.tag.serial && not s) same
+  where
+    by : (z : Bool) → ◌≡◌ {A = Bool} (elim z [ true ↦ not (same_record a b) | false ↦ false ]) (z && not (same_record a b))
+    by true = refl
+    by false = refl
 
--- a test over the first elements of a list
-module _ {A : Type 0} (t : A → Bool) where
-  any_push : (xs : List A) (x : A) → any t (xs ++ x ∷ []) ≡ (any t xs || t x)
-  any_push [] x = or-false (t x)
-    where
-      or-false : (b : Bool) → (b || false) ≡ b
-      or-false true = refl
-      or-false false = refl
-  any_push (y ∷ ys) x = ap (λ (b : Bool). t y || b) (any_push ys x) ∙ or_assoc (t y) (any t ys) (t x)
-    where
-      or_assoc : (a b c : Bool) → (a || (b || c)) ≡ ((a || b) || c)
-      or_assoc true b c = refl
-      or_assoc false b c = refl
+    same : same_record a b ≡ (same_tag a.tag b.tag && bytes_eq a.bytes b.bytes)
+    same =
+        and_four (eqb a.tag.first b.tag.first) (eqb a.tag.second b.tag.second) (eqb a.tag.third b.tag.third) (eqb a.tag.serial b.tag.serial) (same_bytes a.bytes b.bytes)
+        ∙ ap (λ (s : Bool). same_tag a.tag b.tag && s) (bytes-same a.bytes b.bytes)
 
-  any-more : (xs : List A) (i : ℕ) (d : A) → i < length xs → any t (take i xs) ≡ false → t (get_or xs i d) ≡ false → any t (take (i + 1) xs) ≡ false
-  any-more xs i d l e f = ap (any t) (take_more xs i d l) ∙ any_push (take i xs) (get_or xs i d) ∙ or_from _ _ e f
+-- two records clash where their serials are the same, and their tags or their data are not
+pub clash-is : {x y : Chunk} {a b : Record} {t u : Tag} → x ≡ Holds a → y ≡ Holds b → a.tag ≡ t → b.tag ≡ u
+    → clashing x y ≡ (eqb t.serial u.serial && not (same_tag t u && bytes_eq a.bytes b.bytes))
+clash-is {a = a} {b = b} p q e f = rw (p, q, ← e, ← f) (unlike-is a b)
 
-  any_found : (xs : List A) (i n : ℕ) (d : A) → i < n → i < length xs → t (get_or xs i d) ≡ true → any t (take n xs) ≡ true
-  any_found [] i n d h l e = absurd (omega arith)
-  any_found (x ∷ xs) i zero d h l e = absurd (omega arith)
-  any_found (x ∷ xs) zero (suc n) d h l e = or_left (t x) (any t (take n xs)) e
-  any_found (x ∷ xs) (suc i) (suc n) d h l e = or_right (t x) (any t (take n xs)) (any_found xs i n d (omega arith) (omega arith) e)
+-- a chunk that holds no record clashes with none
+pub clash-none : (x y : Chunk) → ((r : Record) → y ≡ Holds r → ⊥) → clashing x y ≡ false
+clash-none Blank y n = refl
+clash-none Damaged y n = refl
+clash-none (Holds a) Blank n = refl
+clash-none (Holds a) Damaged n = refl
+clash-none (Holds a) (Holds b) n = absurd (n b refl)
 
-  any-never : ((x : A) → t x ≡ false) → (xs : List A) → any t xs ≡ false
-  any-never h [] = refl
-  any-never h (x ∷ xs) = or_from _ _ (h x) (any-never h xs)
+pub none-clash : (x : Chunk) → ((r : Record) → x ≡ Holds r → ⊥) → (cs : List Chunk) → any (clashing x) cs ≡ false
+none-clash x n [] = refl
+none-clash Blank n (y ∷ cs) = none-clash Blank n cs
+none-clash Damaged n (y ∷ cs) = none-clash Damaged n cs
+none-clash (Holds r) n (y ∷ cs) = absurd (n r refl)
 
--- row j compared with row i
-pub clashes-more : (s : State) (z : Sizes) (rows : List Look) (j i : ℕ) (v : Bool) → TableOf s z rows → i < length rows → clashes_to s j i ≡ false → v ≡ clashing (row_of s j) (row_of s i) → v ≡ false → clashes_to s j (i + 1) ≡ false
-clashes-more s z rows j i v t l h e f = any-more (clashing (row_of s j)) (flat (blocks_of s)) i Blank (omega (arith, flat-long s, rows_long s z rows t)) h (sym e ∙ f)
+-- row j clashes with one of the first rows, or with none
+module _ (s : State) (j : ℕ) (inside : j < s.n * s.p) where
+  long : length (take j (flat (blocks_of s))) ≡ j
+  long = length-take-le j (flat (blocks_of s)) (omega (arith, flat-long s))
 
-pub clashes-found : (s : State) (z : Sizes) (rows : List Look) (j i : ℕ) (v : Bool) → TableOf s z rows → i < j → i < length rows → v ≡ clashing (row_of s j) (row_of s i) → v ≡ true → clashes_to s j j ≡ true
-clashes-found s z rows j i v t h l e f = any_found (clashing (row_of s j)) (flat (blocks_of s)) i j Blank h (omega (arith, flat-long s, rows_long s z rows t)) (sym e ∙ f)
+  pub clash-found : (i : ℕ) → i < j → clashing (row_of s j) (row_of s i) ≡ true → clashes_to s j j ≡ true
+  clash-found i h e =
+      or_at (any (clashing (row_of s j))) (clashing (row_of s j)) refl (λ _ _. refl) (take j (flat (blocks_of s))) i Blank (omega (arith, long))
+      (ap (clashing (row_of s j)) (get_or-take j (flat (blocks_of s)) i Blank h) ∙ e)
+
+  pub clash-nowhere : ((i : ℕ) → i < j → clashing (row_of s j) (row_of s i) ≡ false) → clashes_to s j j ≡ false
+  clash-nowhere f =
+      or_from_places (any (clashing (row_of s j))) (clashing (row_of s j)) refl (λ _ _. refl) (take j (flat (blocks_of s))) Blank
+      (λ i h. let l : i < j = omega (arith, long) in ap (clashing (row_of s j)) (get_or-take j (flat (blocks_of s)) i Blank l) ∙ f i l)
 
 -- a record at row k clashes with one of those before the rows, or with one of the rows before it
 abbrev Clash : List Record → List Chunk → ℕ → Record → Bool
@@ -118,11 +117,6 @@ module _ (p : ℕ) where
 row-clash : (s : State) (k : ℕ) (r : Record) (b : Bool) → row_of s k ≡ Holds r → clashes_to s k k ≡ b → Clash [] (flat (blocks_of s)) k r ≡ b
 row-clash s k r b e h = subst (λ (x : Chunk). any (clashing x) (take k (flat (blocks_of s))) ≡ b) e h
 
-row-record : (x : Chunk) (cs : List Chunk) → any (clashing x) cs ≡ true → (r : Record) × (x ≡ Holds r)
-row-record Blank cs e = absurd (both_ways _ (any-never (clashing Blank) (λ y. refl) cs) e)
-row-record Damaged cs e = absurd (both_ways _ (any-never (clashing Damaged) (λ y. refl) cs) e)
-row-record (Holds r) cs e = (r, refl)
-
 -- no row clashes with an earlier one
 pub first-clash-none : (s : State) → ((k : ℕ) → k < s.n * s.p → clashes_to s k k ≡ false) → first_clash [] (placed 0 (blocks_of s)) ≡ None
 first-clash-none s h =
@@ -130,9 +124,8 @@ first-clash-none s h =
     ∙ none_rows s.p 0 [] (flat (blocks_of s)) (λ k r l e. row-clash s k r false e (h k (omega (arith, flat-long s))))
 
 -- row k is the first that does
-pub first-clash-some : (s : State) (k : ℕ) → clashes_to s k k ≡ true → ((j : ℕ) → j < k → clashes_to s j j ≡ false) → first_clash [] (placed 0 (blocks_of s)) ≡ Some (k / s.p, k % s.p)
-first-clash-some s k y h =
-    let x = row-record (row_of s k) (take k (flat (blocks_of s))) y in
+pub first-clash-some : (s : State) (k : ℕ) (r : Record) → row_of s k ≡ Holds r → clashes_to s k k ≡ true → ((j : ℕ) → j < k → clashes_to s j j ≡ false) → first_clash [] (placed 0 (blocks_of s)) ≡ Some (k / s.p, k % s.p)
+first-clash-some s k r e y h =
     ap (first_clash []) (placed-rows s)
-    ∙ some-rows s.p 0 [] (flat (blocks_of s)) k x.0 x.1 (row-clash s k x.0 true x.1 y) (λ j a l e. row-clash s j a false e (h j l))
+    ∙ some-rows s.p 0 [] (flat (blocks_of s)) k r e (row-clash s k r true e y) (λ j a l f. row-clash s j a false f (h j l))
     ∙ same_place s.p (0 + k) k (omega arith)

@@ -1,6 +1,6 @@
 -- What mount's checks found, and its verdict. Assumes nothing.
-use Rattle.std.proofs.Common.{◌≡◌, ℕ, ◌+◌, ◌*◌, ◌/◌, ◌%◌, ◌<◌, ◌≤◌, Bool, true, false, not, ◌&&◌, eqb, ltb, ◌⊎◌, List, [], ◌∷◌, map, length, Some, None, Ok, Err, Decides, Option, sym, refl, ap, ◌∙◌, subst, inl, inr}
-use Rattle.std.proofs.lemmas.Bool.{both_ways, cases_Bool, and_parts, and_from, not_from_false, not_from_true, eq-eqb, eqb-true, lt-ltb, le-ltb, le-leb, cond-true, cond-false}
+use Rattle.std.proofs.Common.{◌≡◌, ℕ, ◌+◌, ◌*◌, ◌/◌, ◌<◌, ◌≤◌, Bool, true, false, not, ◌&&◌, eqb, ltb, ◌⊎◌, List, [], ◌∷◌, map, length, Some, None, Ok, Err, Option, sym, refl, ap, ◌∙◌, subst, inl, inr, arith}
+use Rattle.std.proofs.lemmas.Bool.{true_from_ne_false, false≢true, both_ways, cases_Bool, and_parts, and_from, not_from_false, not_from_true, eq-eqb, eqb-true, lt-ltb, le-ltb, le-leb, cond-true, cond-false}
 use Rattle.flash.specs.declared.chunks.Chunk.{Chunk}
 use Rattle.flash.specs.declared.chunks.Chunk.TheVariants.{Blank, Damaged, Holds}
 use Rattle.flash.specs.declared.chunks.Look.{Look}
@@ -37,7 +37,7 @@ use Rattle.scan.specs.Scans.{AllWhole}
 use Rattle.scan.specs.Clashes.{clash_place}
 use Rattle.scan.specs.Checks.{filed_by, note_of, noted, FirstBroken, AllChecked}
 use Rattle.scan.specs.Mounts.{whole_all}
-use Rattle.scan.specs.Mounts.{verdict_of, Idle}
+use Rattle.scan.specs.Mounts.{verdict_of, Idle, Examined}
 use Rattle.scan.proofs.Flat.{standing-flat, flat-cell}
 use Rattle.scan.proofs.Telling.{rows_long, row-tells}
 use Rattle.scan.proofs.Placed.{first-placed-none, first-placed-some}
@@ -49,13 +49,6 @@ no_both header_k a b = both_ways false refl b
 no_both cut_k a b = both_ways false refl b
 no_both marker_k a b = both_ways false refl a
 no_both other_k a b = both_ways false refl a
-
--- the verdict, check by check
-abbrev chain : Bool → Option (ℕ × ℕ) → Option (ℕ × ℕ) → Bool → Bool → Bool → Option Fault
-chain b9 m10 m11 b12 b13 b14 = or_else (plain_if b9 9) (or_else (placed_fault 10 m10) (or_else (placed_fault 11 m11) (or_else (plain_if b12 12) (or_else (plain_if b13 13) (plain_if b14 14)))))
-
-abbrev refused_at : ℕ → ℕ → ℕ → Option Fault
-refused_at k b c = Some (record { number = k; at = Some (b, c) })
 
 -- the name noted: that of some header of the object's file, or none where there is no such header
 pub noted-cases : (filed : Record → Bool) (o : ℕ) (was : Option (List ℕ)) (xs : List Chunk) → 257 ≤ o → o ≤ 511
@@ -93,18 +86,6 @@ module _ (s : State) (z : Sizes) (rows : List Look) (t : TableOf s z rows) where
   abbrev rs : List Record
   rs = standing (blocks_of s)
 
-  abbrev m10 : Option (ℕ × ℕ)
-  m10 = first_placed (λ q. not (keeps_rules q.what)) (placed 0 bs)
-
-  abbrev m11 : Option (ℕ × ℕ)
-  m11 = first_clash [] (placed 0 bs)
-
-  abbrev b12 : Bool
-  b12 = two_named (files rs)
-
-  abbrev b13 : Bool
-  b13 = ltb (limit s.n s.p) (used_by (files rs))
-
   table-rs : records rows ≡ map bare rs
   table-rs = ap records t.mirror ∙ table-records bs
 
@@ -115,18 +96,6 @@ module _ (s : State) (z : Sizes) (rows : List Look) (t : TableOf s z rows) where
     looks_long = rows_long s z rows t;
     each = λ b c hb hc. row-tells s z rows (b * s.p + c) t ∙ ap look_of (flat-cell s b c hb hc ∙ sym (cell_at s b c hb hc));
   })).0
-
-  pub fits-own : sizes_fit z.blocks z.chunks ≡ true → sizes_fit s.n s.p ≡ true
-  fits-own f = ap (λ (x : ℕ). sizes_fit x s.p) (sym t.sizes.blocks) ∙ ap (λ (x : ℕ). sizes_fit z.blocks x) (sym t.sizes.chunks) ∙ f
-
-  pub limit-own : (m : ℕ) → m ≡ limit z.blocks z.chunks → m ≡ limit s.n s.p
-  limit-own m e = e ∙ ap (λ (x : ℕ). limit x z.chunks) t.sizes.blocks ∙ ap (λ (x : ℕ). limit s.n x) t.sizes.chunks
-
-  pub idle-own : (y : Bool) → Idle rows z y → Decides y ((i : ℕ) × (i < s.n) × (load (table_blocks s.p s.n (bares rows)) i ≡ 0))
-  idle-own y d =
-      let P : ℕ → ℕ → Type 0 = λ n p. Decides y ((i : ℕ) × (i < n) × (load (table_blocks p n (bares rows)) i ≡ 0)) in
-      let long : length rows ≡ z.blocks * z.chunks = rows_long s z rows t ∙ ap (λ (x : ℕ). x * s.p) (sym t.sizes.blocks) ∙ ap (λ (x : ℕ). z.blocks * x) (sym t.sizes.chunks) in
-      subst (λ (x : ℕ). P x s.p) t.sizes.blocks (subst (λ (x : ℕ). P z.blocks x) t.sizes.chunks (d long))
 
   -- the names noted are those of the files, once records of one serial are equal
   pub names-mirror : (names : List ℕ) → AllChecked s rows names → ((r : Record) → Among r rs → keeps_rules r ≡ true) → Unique rs → Mirrors names (files rs)
@@ -163,79 +132,6 @@ module _ (s : State) (z : Sizes) (rows : List Look) (t : TableOf s z rows) where
           let hr = header-rule x.0 x.2 (keeps x.0 (into x.0 x.1)) in
           x.5 ∙ cond-true (within 1 40 (first_byte x.0.bytes)) _ _ (and_from _ _ (le-leb 1 _ hr.low) (le-leb _ 40 hr.high)) ∙ ap Some (sym g.2 ∙ ap (λ (w : File). w.name) same)
 
-  module _ (fit : sizes_fit s.n s.p ≡ true) where
-    b9 : not (sizes_fit s.n s.p) ≡ false
-    b9 = not_from_true _ fit
-
-    pub at-10 : (e : Refusal) → FirstBroken s e → verdict_of (Err e) ≡ verdict s.n s.p bs
-    at-10 e f =
-        let k = f.broken in
-        let found : m10 ≡ Some (f.row / s.p, f.row % s.p) = first-placed-some s (λ r. not (keeps_rules r)) f.row k.found k.here (not_from_false _ k.breaks) (λ j a l p. not_from_true _ (f.before j a l p)) in
-        ap (λ (x : Refusal). verdict_of (Err x)) k.tells
-        ∙ ap (λ (x : ℕ). refused_at 10 x k.place.chunk) k.block ∙ ap (λ (x : ℕ). refused_at 10 (f.row / s.p) x) k.chunk
-        ∙ sym (ap (λ (x : Bool). chain x m10 m11 b12 b13 (no_way_on bs)) b9 ∙ ap (λ (x : Option (ℕ × ℕ)). chain false x m11 b12 b13 (no_way_on bs)) found)
-
-    -- 10 is passed too
-    module _ (names : List ℕ) (h : AllChecked s rows names) where
-      n10 : m10 ≡ None
-      n10 = first-placed-none s (λ r. not (keeps_rules r)) (λ k r l p. not_from_true _ (h.keep k r l p))
-
-      pub keeps : (r : Record) → Among r rs → keeps_rules r ≡ true
-      keeps = keeps-from bs n10
-
-      from-10 : verdict s.n s.p bs ≡ chain false None m11 b12 b13 (no_way_on bs)
-      from-10 = ap (λ (x : Bool). chain x m10 m11 b12 b13 (no_way_on bs)) b9 ∙ ap (λ (x : Option (ℕ × ℕ)). chain false x m11 b12 b13 (no_way_on bs)) n10
-
-      pub at-11 : (q : Place) → clash_place (Some q) ≡ m11 → verdict_of (Err (SerialClash q)) ≡ verdict s.n s.p bs
-      at-11 q e = sym (from-10 ∙ ap (λ (x : Option (ℕ × ℕ)). chain false None x b12 b13 (no_way_on bs)) (sym e))
-
-      -- and 11
-      module _ (c : clash_place None ≡ m11) where
-        pub unique : Unique rs
-        unique = unique-from bs (sym c)
-
-        pub mirror : Mirrors names (files rs)
-        mirror = names-mirror names h keeps unique
-
-        from-11 : verdict s.n s.p bs ≡ chain false None None b12 b13 (no_way_on bs)
-        from-11 = from-10 ∙ ap (λ (x : Option (ℕ × ℕ)). chain false None x b12 b13 (no_way_on bs)) (sym c)
-
-        pub at-12 : (b : Bool) → b ≡ b12 → b ≡ true → verdict_of (Err SameNames) ≡ verdict s.n s.p bs
-        at-12 b e y = sym (from-11 ∙ ap (λ (x : Bool). chain false None None x b13 (no_way_on bs)) (sym e ∙ y))
-
-        used_is : (k : ℕ) → k ≡ used (records rows) → k ≡ used_by (files rs)
-        used_is k e = e ∙ ap used table-rs ∙ (bare-reads-alike rs).used_same ∙ sym (used-by-files rs unique keeps)
-
-        -- and 12
-        module _ (b : Bool) (e12 : b ≡ b12) (n12 : b ≡ false) where
-          from-12 : verdict s.n s.p bs ≡ chain false None None false b13 (no_way_on bs)
-          from-12 = from-11 ∙ ap (λ (x : Bool). chain false None None x b13 (no_way_on bs)) (sym e12 ∙ n12)
-
-          pub at-13 : (k m : ℕ) → k ≡ used (records rows) → m ≡ limit s.n s.p → m < k → verdict_of (Err FilesTooLarge) ≡ verdict s.n s.p bs
-          at-13 k m e f l =
-              sym (from-12 ∙ ap (λ (x : Bool). chain false None None false x (no_way_on bs)) (lt-ltb _ _ (subst (λ (x : ℕ). x < used_by (files rs)) f (subst (λ (x : ℕ). m < x) (used_is k e) l))))
-
-          -- and 13
-          module _ (k m : ℕ) (e : k ≡ used (records rows)) (f : m ≡ limit s.n s.p) (l : k ≤ m) where
-            from-13 : verdict s.n s.p bs ≡ chain false None None false false (no_way_on bs)
-            from-13 = from-12 ∙ ap (λ (x : Bool). chain false None None false x (no_way_on bs)) (le-ltb _ _ (subst (λ (x : ℕ). used_by (files rs) ≤ x) f (subst (λ (x : ℕ). x ≤ m) (used_is k e) l)))
-
-            load_is : (i : ℕ) → load (table_blocks s.p s.n (bares rows)) i ≡ load bs i
-            load_is i = ap (λ (xs : List (List Chunk)). load xs i) table-bs ∙ (blocks-alike bs).load_same i
-
-            pub at-14 : (y : Bool) → Decides y ((i : ℕ) × (i < s.n) × (load (table_blocks s.p s.n (bares rows)) i ≡ 0)) → y ≡ false → verdict_of (Err NoWayOn) ≡ verdict s.n s.p bs
-            at-14 y d n =
-                sym (from-13 ∙ ap (λ (x : Bool). chain false None None false false x)
-                (elim (cases_Bool (no_way_on bs)) [
-                  | inl q ↦ q
-                  | inr q ↦ absurd (let w = way-from s.n bs (blocks-count s) q in both_ways y n (d.1 (w.0, w.1, load_is w.0 ∙ w.2)))
-                ]))
-
-            pub at-end : (y : Bool) → Decides y ((i : ℕ) × (i < s.n) × (load (table_blocks s.p s.n (bares rows)) i ≡ 0)) → y ≡ true → verdict_of (Ok tt) ≡ verdict s.n s.p bs
-            at-end y d q =
-                let w = d.0 q in
-                sym (from-13 ∙ ap (λ (x : Bool). chain false None None false false x) (way-to s.n bs (blocks-count s) (w.0, w.1, sym (load_is w.0) ∙ w.2)))
-
 -- every record is whole
 whole_from : (rs : List Record) → ((r : Record) → Among r rs → length r.bytes ≡ 2048) → whole_all rs ≡ true
 whole_from [] f = refl
@@ -243,3 +139,104 @@ whole_from (r ∷ rs) f = and_from _ _ (eq-eqb _ _ (f r (inl refl))) (whole_from
 
 pub whole-all : (s : State) → AllWhole s → whole_all (standing (blocks_of s)) ≡ true
 whole-all s w = whole_from (standing (blocks_of s)) (λ r a. (stands-whole s w r a).bytes)
+
+fits-own : {s : State} {z : Sizes} {rows : List Look} → TableOf s z rows → sizes_fit z.blocks z.chunks ≡ true → sizes_fit s.n s.p ≡ true
+fits-own t f = rw (← t.sizes.blocks, ← t.sizes.chunks) f
+
+-- the verdict of a chip with sizes that fit, check by check
+abbrev refused_at : ℕ → ℕ → Option Fault
+refused_at b c = Some (record { number = 10; at = Some (b, c) })
+
+abbrev chain : Option (ℕ × ℕ) → Option (ℕ × ℕ) → Bool → Bool → Bool → Option Fault
+chain m10 m11 b12 b13 b14 = or_else (placed_fault 10 m10) (or_else (placed_fault 11 m11) (or_else (plain_if b12 12) (or_else (plain_if b13 13) (plain_if b14 14))))
+
+module _ (s : State) (fit : sizes_fit s.n s.p ≡ true) where
+  verdict-by : {m10 m11 : Option (ℕ × ℕ)} {b12 b13 b14 : Bool} → first_placed (λ q. not (keeps_rules q.what)) (placed 0 (blocks_of s)) ≡ m10 → first_clash [] (placed 0 (blocks_of s)) ≡ m11
+      → two_named (files (standing (blocks_of s))) ≡ b12 → ltb (limit s.n s.p) (used_by (files (standing (blocks_of s)))) ≡ b13 → no_way_on (blocks_of s) ≡ b14 → verdict s.n s.p (blocks_of s) ≡ chain m10 m11 b12 b13 b14
+  verdict-by e10 e11 e12 e13 e14 = rw (fit, e10, e11, e12, e13, e14) refl
+
+-- what the first checks found: the rows tell of the chip, all records are whole and keep the rules, and none clashes with another
+pub record Passed (s : State) (z : Sizes) (rows : List Look) (names : List ℕ) : Type 0 where
+  table : TableOf s z rows
+  fit : sizes_fit z.blocks z.chunks ≡ true
+  whole : AllWhole s
+  checked : AllChecked s rows names
+  clash : clash_place None ≡ first_clash [] (placed 0 (blocks_of s))
+
+pub broken-rule : {s : State} {z : Sizes} {rows : List Look} (t : TableOf s z rows) → sizes_fit z.blocks z.chunks ≡ true → (names : List ℕ) (e : Refusal) → FirstBroken s e → Examined s (Err e) rows names
+broken-rule {s = s} t fit names e f =
+    let k = f.broken in
+    record {
+      answers =
+          ap (λ (x : Refusal). verdict_of (Err x)) k.tells ∙ ap (λ (x : ℕ). refused_at x k.place.chunk) k.block ∙ ap (refused_at (f.row / s.p)) k.chunk
+          ∙ sym (verdict-by s (fits-own t fit) (first-placed-some s (λ r. not (keeps_rules r)) f.row k.found k.here (not_from_false _ k.breaks) (λ j a l p. not_from_true _ (f.before j a l p))) refl refl refl refl);
+      leaves = tt;
+    }
+
+no-broken : {s : State} {rows : List Look} {names : List ℕ} → AllChecked s rows names → first_placed (λ q. not (keeps_rules q.what)) (placed 0 (blocks_of s)) ≡ None
+no-broken {s = s} h = first-placed-none s (λ r. not (keeps_rules r)) (λ k r l p. not_from_true _ (h.keep k r l p))
+
+pub serial-clash : {s : State} {z : Sizes} {rows : List Look} (t : TableOf s z rows) → sizes_fit z.blocks z.chunks ≡ true → {names : List ℕ} → AllChecked s rows names
+    → (q : Place) → clash_place (Some q) ≡ first_clash [] (placed 0 (blocks_of s)) → Examined s (Err (SerialClash q)) rows names
+serial-clash {s = s} t fit h q e = record { answers = sym (verdict-by s (fits-own t fit) (no-broken h) (sym e) refl refl refl); leaves = tt }
+
+pub passed : {s : State} {z : Sizes} {rows : List Look} {names : List ℕ} → TableOf s z rows → sizes_fit z.blocks z.chunks ≡ true → AllWhole s → AllChecked s rows names
+    → clash_place None ≡ first_clash [] (placed 0 (blocks_of s)) → Passed s z rows names
+passed t f w h c = record { table = t; fit = f; whole = w; checked = h; clash = c }
+
+module _ {s : State} {z : Sizes} {rows : List Look} {names : List ℕ} (p : Passed s z rows names) where
+  keeps : (r : Record) → Among r (standing (blocks_of s)) → keeps_rules r ≡ true
+  keeps = keeps-from (blocks_of s) (no-broken p.checked)
+
+  unique : Unique (standing (blocks_of s))
+  unique = unique-from (blocks_of s) (sym p.clash)
+
+  pub mirror : Mirrors names (files (standing (blocks_of s)))
+  mirror = names-mirror s z rows p.table names p.checked keeps unique
+
+  verdict-then : {b12 b13 b14 : Bool} → two_named (files (standing (blocks_of s))) ≡ b12 → ltb (limit s.n s.p) (used_by (files (standing (blocks_of s)))) ≡ b13 → no_way_on (blocks_of s) ≡ b14
+      → verdict s.n s.p (blocks_of s) ≡ chain None None b12 b13 b14
+  verdict-then = verdict-by s (fits-own p.table p.fit) (no-broken p.checked) (sym p.clash)
+
+  pub same-names : true ≡ two_named (files (standing (blocks_of s))) → Examined s (Err SameNames) rows names
+  same-names e = record { answers = sym (verdict-then (sym e) refl refl); leaves = tt }
+
+  used-is : used (records rows) ≡ used_by (files (standing (blocks_of s)))
+  used-is = ap used (table-rs s z rows p.table) ∙ (bare-reads-alike (standing (blocks_of s))).used_same ∙ sym (used-by-files (standing (blocks_of s)) unique keeps)
+
+  limit-is : limit z.blocks z.chunks ≡ limit s.n s.p
+  limit-is = ap (λ (x : ℕ). limit x z.chunks) p.table.sizes.blocks ∙ ap (λ (x : ℕ). limit s.n x) p.table.sizes.chunks
+
+  pub too-large : false ≡ two_named (files (standing (blocks_of s))) → limit z.blocks z.chunks < used (records rows) → Examined s (Err FilesTooLarge) rows names
+  too-large e l = record { answers = sym (verdict-then (sym e) (lt-ltb _ _ (rw (← limit-is, ← used-is) l)) refl); leaves = tt }
+
+  load-is : (i : ℕ) → load (table_blocks z.chunks z.blocks (bares rows)) i ≡ load (blocks_of s) i
+  load-is i = rw (p.table.sizes.blocks, p.table.sizes.chunks) (ap (λ (xs : List (List Chunk)). load xs i) (table-bs s z rows p.table) ∙ (blocks-alike (blocks_of s)).load_same i)
+
+  long : length rows ≡ z.blocks * z.chunks
+  long = rw (p.table.sizes.blocks, p.table.sizes.chunks) (rows_long s z rows p.table)
+
+  idle-is : (y : Bool) → Idle rows z y → no_way_on (blocks_of s) ≡ not y
+  idle-is true d =
+      let w = (d long).0 refl in
+      let n = p.table.sizes.blocks in
+      way-to s.n (blocks_of s) (blocks-count s) (w.0, omega (arith, w.1), sym (load-is w.0) ∙ w.2)
+  idle-is false d =
+      true_from_ne_false (no_way_on (blocks_of s))
+      (λ q.
+      let w = way-from s.n (blocks_of s) (blocks-count s) q in
+      let n = p.table.sizes.blocks in
+      false≢true ((d long).1 (w.0, omega (arith, w.1), load-is w.0 ∙ w.2)))
+
+  module _ (e : false ≡ two_named (files (standing (blocks_of s)))) (l : used (records rows) ≤ limit z.blocks z.chunks) where
+    small : ltb (limit s.n s.p) (used_by (files (standing (blocks_of s)))) ≡ false
+    small = le-ltb _ _ (rw (← limit-is, ← used-is) l)
+
+    pub no-way : Idle rows z false → Examined s (Err NoWayOn) rows names
+    no-way d = record { answers = sym (verdict-then (sym e) small (idle-is false d)); leaves = tt }
+
+    pub accepted : Idle rows z true → Examined s (Ok tt) rows names
+    accepted d = record {
+      answers = sym (verdict-then (sym e) small (idle-is true d));
+      leaves = record { mirror = p.table.mirror; whole = whole-all s p.whole; named = mirror };
+    }

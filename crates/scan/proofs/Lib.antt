@@ -7,8 +7,6 @@ pub mod Clashing
 pub mod Keeping
 pub mod Noting
 pub mod RowChecking
-pub mod Erasing
-pub mod Formatting
 pub mod Recorded
 pub mod Examining
 pub mod Standings

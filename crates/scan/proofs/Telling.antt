@@ -1,10 +1,12 @@
 -- What a row of a table tells of its chunk, and the chunk at its place. Assumes nothing.
-use Rattle.std.proofs.Common.{◌≡◌, ℕ, ◌*◌, ◌/◌, ◌%◌, ◌<◌, ◌≤◌, List, length, get_or, sym, ap, ◌∙◌, ⊎_elim, arith}
+use Rattle.std.proofs.Common.{◌≡◌, ℕ, ◌*◌, ◌/◌, ◌%◌, ◌<◌, ◌≤◌, List, length, get_or, sym, refl, ap, ◌∙◌, ⊎_elim, arith}
 use Rattle.std.proofs.lemmas.Bool.{both_ways}
 use Rattle.flash.specs.declared.chunks.Tag.{Tag}
 use Rattle.flash.specs.declared.chunks.Place.{Place}
 use Rattle.flash.specs.declared.chunks.Sizes.{Sizes}
-use Rattle.flash.specs.declared.chunks.Chunk.TheVariants.{Blank, Damaged}
+use Rattle.flash.specs.declared.chunks.Record.{Record}
+use Rattle.flash.specs.declared.chunks.Chunk.{Chunk}
+use Rattle.flash.specs.declared.chunks.Chunk.TheVariants.{Blank, Damaged, Holds}
 use Rattle.flash.specs.declared.chunks.Look.{Look}
 use Rattle.flash.specs.declared.chunks.Look.TheVariants.{Blank as BlankL, Record as RecordL}
 use Rattle.flash.specs.declared.faults.Fault.{Fault}
@@ -13,6 +15,7 @@ use Rattle.flash.specs.Chunks.{look_of}
 use Rattle.flash.specs.Model.{State, blocks_of}
 use Rattle.flash.specs.Reads.{NotFetched}
 use Rattle.scan.specs.Flat.{flat}
+use Rattle.scan.specs.Tables.{PlaceOf}
 use Rattle.scan.specs.Tables.{TableOf, row_of}
 use Rattle.scan.proofs.Rows.{row_block, row-chunk, row_is}
 use Rattle.scan.proofs.Flat.{flat-long, flat-cell, looks_long, looks-at}
@@ -31,37 +34,44 @@ row-cell s k h =
     sym (flat-cell s (k / s.p) (k % s.p) (row_block s.n s.p k h) (row-chunk s.n s.p k h))
     ∙ ap (λ (z : ℕ). get_or (flat (blocks_of s)) z Blank) (row_is s.p k)
 
--- a row has a place
-pub row_in : (s : State) (z : Sizes) (rows : List Look) (k : ℕ) → TableOf s z rows → k < length rows → k < z.blocks * z.chunks
-row_in s z rows k t h =
-    let e : z.blocks * z.chunks ≡ s.n * s.p = ap (λ (a : ℕ). a * z.chunks) t.sizes.blocks ∙ ap (λ (a : ℕ). s.n * a) t.sizes.chunks in
-    omega (arith, rows_long s z rows t)
+module _ {s : State} {z : Sizes} {rows : List Look} (t : TableOf s z rows) where
+  -- a row has a place
+  pub row_inside : (k : ℕ) → k < length rows → k < s.n * s.p
+  row_inside k h = omega (arith, rows_long s z rows t)
 
--- the place of row k
-abbrev pub At : Sizes → ℕ → Place → Type 0
-At z k q = (q.block ≡ k / z.chunks) × (q.chunk ≡ k % z.chunks)
+  pub row_in : (k : ℕ) → k < length rows → k < z.blocks * z.chunks
+  row_in k h =
+      let e : z.blocks * z.chunks ≡ s.n * s.p = ap (λ (a : ℕ). a * z.chunks) t.sizes.blocks ∙ ap (λ (a : ℕ). s.n * a) t.sizes.chunks in
+      omega (arith, rows_long s z rows t)
 
-module _ (s : State) (z : Sizes) (rows : List Look) (t : TableOf s z rows) (k : ℕ) (q : Place) (at : At z k q) (h : k < length rows) where
-  k-in : k < s.n * s.p
-  k-in = omega (arith, rows_long s z rows t)
+  pub row_place : (k : ℕ) (q : Place) → k < length rows → q.block ≡ k / z.chunks → q.chunk ≡ k % z.chunks → PlaceOf s k q
+  row_place k q h eb ec =
+      let l = row_inside k h in
+      let b : q.block ≡ k / s.p = eb ∙ ap (λ (a : ℕ). k / a) t.sizes.chunks in
+      let c : q.chunk ≡ k % s.p = ec ∙ ap (λ (a : ℕ). k % a) t.sizes.chunks in
+      record {
+        block = b;
+        chunk = c;
+        within = record { block = omega (arith, row_block s.n s.p k l); chunk = omega (arith, row-chunk s.n s.p k l) };
+        here = ap (λ (a : ℕ). s.cells a q.chunk) b ∙ ap (s.cells (k / s.p)) c ∙ row-cell s k l;
+      }
 
-  block-is : q.block ≡ k / s.p
-  block-is = at.0 ∙ ap (λ (a : ℕ). k / a) t.sizes.chunks
+  -- the record that a row tells of
+  pub told : (k : ℕ) (g : Tag) → get_or rows k BlankL ≡ RecordL g → (r : Record) × (row_of s k ≡ Holds r) × (r.tag ≡ g)
+  told k g e = by-chunk (row_of s k) refl
+    where
+      by-chunk : (x : Chunk) → row_of s k ≡ x → (r : Record) × (row_of s k ≡ Holds r) × (r.tag ≡ g)
+      by-chunk Blank p = absurd (let w = row-tells s z rows k t in let v = ap look_of p in cc)
+      by-chunk Damaged p = absurd (let w = row-tells s z rows k t in let v = ap look_of p in cc)
+      by-chunk (Holds r) p = (r, p, let w = row-tells s z rows k t in let v = ap look_of p in cc)
 
-  chunk-is : q.chunk ≡ k % s.p
-  chunk-is = at.1 ∙ ap (λ (a : ℕ). k % a) t.sizes.chunks
-
-  pub place-holds : s.cells q.block q.chunk ≡ row_of s k
-  place-holds = ap (λ (a : ℕ). s.cells a q.chunk) block-is ∙ ap (s.cells (k / s.p)) chunk-is ∙ row-cell s k k-in
+  pub untold : (k : ℕ) → ((g : Tag) → get_or rows k BlankL ≡ RecordL g → ⊥) → (r : Record) → row_of s k ≡ Holds r → ⊥
+  untold k n r e = n r.tag (row-tells s z rows k t ∙ ap look_of e)
 
   -- a fetch of a record that is there, from a chip that is on, is not refused
-  pub fetched : (g : Tag) (f : Fault) → look_of (row_of s k) ≡ RecordL g → NotFetched s q f → ⊥
-  fetched g Off e n = both_ways s.on n t.on
-  fetched g NoSuchPlace e n =
-      ⊎_elim (λ (x : s.n ≤ q.block). omega (arith, block-is, row_block s.n s.p k k-in)) (λ (x : s.p ≤ q.chunk). omega (arith, chunk-is, row-chunk s.n s.p k k-in)) n.1
-  fetched g NotBlank e n = n
-  fetched g (SupplyFailed a) e n = n
-  fetched g NoRecord e n =
-      ⊎_elim (λ (x : s.cells q.block q.chunk ≡ Blank). (let y = ap look_of (sym place-holds ∙ x) in let o : ◌≡◌ {A = ℕ} 0 1 = cc in omega arith))
-      (λ (x : s.cells q.block q.chunk ≡ Damaged). (let y = ap look_of (sym place-holds ∙ x) in let o : ◌≡◌ {A = ℕ} 0 1 = cc in omega arith))
-      n.2
+  pub fetched : (k : ℕ) (q : Place) (r : Record) (f : Fault) → PlaceOf s k q → row_of s k ≡ Holds r → NotFetched s q f → ⊥
+  fetched k q r Off p e n = both_ways s.on n t.on
+  fetched k q r NoSuchPlace p e n = ⊎_elim (λ (x : s.n ≤ q.block). omega arith) (λ (x : s.p ≤ q.chunk). omega arith) n.1
+  fetched k q r NotBlank p e n = n
+  fetched k q r (SupplyFailed a) p e n = n
+  fetched k q r NoRecord p e n = ⊎_elim (λ (x : s.cells q.block q.chunk ≡ Blank). absurd (let y = p.here in cc)) (λ (x : s.cells q.block q.chunk ≡ Damaged). absurd (let y = p.here in cc)) n.2

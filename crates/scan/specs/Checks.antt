@@ -11,7 +11,7 @@ use Rattle.flash.specs.Model.{State, blocks_of}
 use Rattle.rules.specs.Lists.{within}
 use Rattle.rules.specs.Records.{kind, is_header, object, first_byte, keeps_rules}
 use Rattle.rules.specs.Reading.{in_file}
-use Rattle.tags.specs.Bare.{bare_tag, bare, records}
+use Rattle.tags.specs.Bare.{bare, records}
 use Rattle.names.specs.Names.{name_at, name_from}
 use Rattle.scan.specs.declared.refusals.Refusal.{Refusal}
 use Rattle.scan.specs.declared.refusals.Refusal.TheVariants.{BadRecord}
@@ -33,24 +33,21 @@ abbrev pub noted : (Record → Bool) → ℕ → Option (List ℕ) → List Chun
 noted filed o was [] = was
 noted filed o was (x ∷ xs) = noted filed o (note_of filed o x was) xs
 
--- the name in a header's data noted, if the header with this tag is its file's
-abbrev pub NotedIf : List Look → Tag → List ℕ → List ℕ → List ℕ → Type 0
-NotedIf rows t bytes before after = (o : ℕ) → name_at after o ≡ cond (filed_by rows (bare_tag t) && (within 257 511 (object (bare_tag t)) && o == object (bare_tag t))) (name_from bytes) (name_at before o)
-
--- a header's name noted, and the first byte of its data told
-abbrev pub NameNoted : State → List Look → Place → List ℕ → Result ℕ Fault → List ℕ → Type 0
-NameNoted s rows q before (Ok v) after = (r : Record) → s.cells q.block q.chunk ≡ Holds r
-    → (v ≡ first_byte r.bytes) × ((o : ℕ) → name_at after o ≡ cond (filed_by rows r && (within 257 511 (object r) && o == object r)) (name_from r.bytes) (name_at before o))
-NameNoted s rows q before (Err f) after = ⊥
-
--- the same of any record: it counts as 0 where the record is no header
+-- the first byte of a record's data, or 0 where it is no header
 abbrev pub first_if : Record → ℕ
 first_if r = cond (is_header (kind r)) (first_byte r.bytes) 0
 
-abbrev pub FirstByte : State → List Look → Place → List ℕ → Result ℕ Fault → List ℕ → Type 0
-FirstByte s rows q before (Ok v) after = (r : Record) → s.cells q.block q.chunk ≡ Holds r
-    → (v ≡ first_if r) × ((o : ℕ) → name_at after o ≡ note_of (filed_by rows) o (Holds r) (name_at before o))
-FirstByte s rows q before (Err f) after = ⊥
+-- that byte told of the record with these four numbers that is in row k, and its name noted
+pub record FirstOf (s : State) (rows : List Look) (k : ℕ) (t : Tag) (before : List ℕ) (v : ℕ) (after : List ℕ) : Type 0 where
+  pub found : Record
+  pub here : row_of s k ≡ Holds found
+  pub tag : found.tag ≡ t
+  pub first : v ≡ first_if found
+  pub named : (o : ℕ) → name_at after o ≡ note_of (filed_by rows) o (row_of s k) (name_at before o)
+
+abbrev pub FirstNoted : State → List Look → ℕ → Tag → List ℕ → Result ℕ Fault → List ℕ → Type 0
+FirstNoted s rows k t before (Ok v) after = FirstOf s rows k t before v after
+FirstNoted s rows k t before (Err f) after = ⊥
 
 -- row i checked: its record keeps the rules, and its name is noted; or 10 with its place
 pub record BrokenRule (s : State) (i : ℕ) (e : Refusal) : Type 0 where

@@ -1,25 +1,14 @@
 -- Unlike records with one serial: where the first one stands that is unlike an earlier one. Assumes nothing.
-use Rattle.std.specs.Prelude.{◌≡◌, ℕ, Bool, false, ◌⊎◌, [], take, Some, None, Ok, Err, Decides, Option, Result}
+use Rattle.std.specs.Prelude.{◌≡◌, ℕ, Bool, false, [], take, Some, None, Ok, Err, Option, Result}
 use Rattle.flash.specs.declared.chunks.Chunk.{Chunk}
 use Rattle.flash.specs.declared.chunks.Chunk.TheVariants.{Blank, Damaged, Holds}
-use Rattle.flash.specs.declared.chunks.Look.{Look}
-use Rattle.flash.specs.declared.chunks.Look.TheVariants.{Record as RecordL}
 use Rattle.flash.specs.declared.chunks.Place.{Place}
-use Rattle.flash.specs.declared.chunks.Record.{Record}
-use Rattle.flash.specs.declared.chunks.Tag.{Tag}
 use Rattle.flash.specs.declared.faults.Fault.{Fault}
-use Rattle.flash.specs.Chunks.{look_of}
 use Rattle.flash.specs.Model.{State, blocks_of}
-use Rattle.flash.specs.Reads.{NotFetched}
 use Rattle.rules.specs.Lists.{any}
 use Rattle.rules.specs.Mounting.{unlike, placed, first_clash}
 use Rattle.scan.specs.Flat.{flat}
 use Rattle.scan.specs.Tables.{row_of}
-
--- whether two records have the same data bytes; fetch may refuse either
-abbrev pub SameData : State → Place → Place → Result Bool Fault → Type 0
-SameData s a b (Ok v) = (ra rb : Record) → s.cells a.block a.chunk ≡ Holds ra → s.cells b.block b.chunk ≡ Holds rb → Decides v (ra.bytes ≡ rb.bytes)
-SameData s a b (Err f) = NotFetched s a f ⊎ NotFetched s b f
 
 -- two chunks hold unlike records with one serial
 abbrev pub clashing : Chunk → Chunk → Bool
@@ -29,15 +18,10 @@ clashing (Holds a) Blank = false
 clashing (Holds a) Damaged = false
 clashing (Holds a) (Holds b) = unlike a b
 
--- whether two chunks clash, as far as looks tell: where the four numbers are the same, the data decides
-abbrev pub ByTags : Look → Look → Option Bool → Type 0
-ByTags a b (Some v) = (x y : Chunk) → look_of x ≡ a → look_of y ≡ b → v ≡ clashing x y
-ByTags a b None = (t : Tag) × (a ≡ RecordL t) × (b ≡ RecordL t)
-
--- whether the chunks of two rows clash
-abbrev pub ClashAt : State → ℕ → ℕ → Result Bool Fault → Type 0
-ClashAt s j i (Ok v) = v ≡ clashing (row_of s j) (row_of s i)
-ClashAt s j i (Err f) = ⊥
+-- whether two chunks clash
+abbrev pub Clash : Chunk → Chunk → Result Bool Fault → Type 0
+Clash x y (Ok v) = v ≡ clashing x y
+Clash x y (Err f) = ⊥
 
 -- row j clashes with one of the first i rows
 abbrev pub clashes_to : State → ℕ → ℕ → Bool

@@ -1,12 +1,13 @@
 -- What format leaves of a chip. Assumes nothing.
-use Rattle.std.specs.Prelude.{◌≡◌, ℕ, ◌<◌, true, false, ◌⊎◌, Ok, Err, Result}
+use Rattle.std.specs.Prelude.{◌≡◌, ℕ, ◌<◌, true, false, Bool, Ok, Err, Decides, Result}
 use Rattle.flash.specs.declared.chunks.Chunk.TheVariants.{Blank}
 use Rattle.flash.specs.declared.faults.Act.{Act}
 use Rattle.flash.specs.declared.faults.Act.TheVariants.{Adding, Copying, Erasing}
 use Rattle.flash.specs.declared.faults.Fault.{Fault}
 use Rattle.flash.specs.declared.faults.Fault.TheVariants.{Off, NoSuchPlace, NotBlank, SupplyFailed, NoRecord}
 use Rattle.flash.specs.Model.{State, started}
-use Rattle.flash.specs.Writes.{LeftByErase, Erased}
+use Rattle.flash.specs.Reads.{NotLooked}
+use Rattle.flash.specs.Writes.{LeftByErase}
 use Rattle.rules.specs.Mounting.{sizes_fit}
 use Rattle.scan.specs.declared.refusals.Refusal.{Refusal}
 use Rattle.scan.specs.declared.refusals.Refusal.TheVariants.{Chip, BadSizes, BadRecord, SerialClash, SameNames, FilesTooLarge, NoWayOn, Stopped, BadObject, BadNumber, BadCount, BadName, NotPresent, AlreadyPresent, NameTaken, IsOpen, NotOpen, NotShorter, NoSerial, NoRoom, NothingToClean, FewRows}
@@ -15,9 +16,10 @@ use Rattle.scan.specs.declared.refusals.Refusal.TheVariants.{Chip, BadSizes, Bad
 abbrev pub BlankBlock : State → ℕ → Type 0
 BlankBlock s b = (c : ℕ) → c < s.p → s.cells b c ≡ Blank
 
--- a blank block is left as it is, any other is erased
-abbrev pub Cleared : State → ℕ → Result (Unit {0}) Fault → State → Type 0
-Cleared s b r t = (BlankBlock s b × (r ≡ Ok tt) × (t ≡ s)) ⊎ ((BlankBlock s b → ⊥) × Erased s b r t)
+-- whether block b is blank; a look at it may be refused
+abbrev pub BlankTold : State → ℕ → Result Bool Fault → Type 0
+BlankTold s b (Ok v) = Decides v (BlankBlock s b)
+BlankTold s b (Err f) = (c : ℕ) × (c < s.p) × NotLooked s (record { block = b; chunk = c }) f
 
 -- the blocks below b are blank, the others as they were
 pub record ErasedTo (s : State) (b : ℕ) (t : State) : Type 0 where

@@ -2,9 +2,9 @@ pub mod Flat
 pub mod Refusals
 pub mod Scans
 pub mod Tables
+pub mod Starts
 pub mod Formats
 pub mod Clashes
 pub mod Checks
-pub mod Standing
 pub mod Mounts
 pub mod Indexes

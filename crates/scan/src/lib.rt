@@ -11,6 +11,8 @@ mod mounts;
 pub mod refusals;
 pub mod scans;
 mod standing;
+mod starts;
+mod tables;
 
 pub use formats::format;
 pub use indexes::Index;

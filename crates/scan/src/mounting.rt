@@ -4,11 +4,11 @@ ghost use Rattle.rules.specs.Mounting.{verdict};
 ghost use Rattle.scan.specs.Mounts.{verdict_of};
 ghost use Rattle.scan.specs.Indexes.{Mounted};
 
-use crate::formats::fits;
 use crate::indexes::Index;
-use crate::mounts::examine_into;
 use crate::refusals::Refusal;
-use crate::standing::stand_by;
+use crate::scans::scan_rows;
+use crate::starts::start;
+use crate::tables::Scan;
 use flash::{Chip, Look, Sizes};
 use names::Names;
 use rules::Standing;
@@ -41,15 +41,17 @@ impl Index {
         ensures answers { verdict_of result ≡ verdict (C.Chip.model chip.old).n (C.Chip.model chip.old).p (blocks_of (C.Chip.model chip.old)) }
         ensures leaves { Mounted (C.Chip.model chip.new) self.old result self.new }
     {
-        chip.restart();
-        let sizes = chip.sizes();
-        if !fits(sizes) {
-            return Err(Refusal::BadSizes);
-        }
+        let sizes = start(chip)?;
         self.sizes = sizes;
-        self.names.clear();
-        examine_into(chip, sizes, &mut self.rows, &mut self.names)?;
-        stand_by(&self.rows, sizes, &mut self.standings);
+        let (count, blocks) = (sizes.count(), sizes.blocks as usize);
+        scan_rows(chip, sizes, &mut self.rows[0..count])?;
+        let scan = Scan {
+            chip,
+            sizes,
+            rows: &self.rows[0..count],
+        };
+        scan.examine(&mut self.names)?;
+        scan.stand(&mut self.standings[0..blocks]);
         Ok(())
     }
 }

@@ -47,6 +47,7 @@ impl From<Fault> for Refusal {
 }
 
 impl Refusal {
+    // A named method: an enum whose variants carry values has no numbers of its own.
     pub fn number(&self) -> u32
         ensures { result ≡ (told self.now).0 }
     {

@@ -26,7 +26,7 @@ impl Index {
     pub fn looks(&self) -> &[Look]
         ensures { result.now ≡ looks_in self.now }
     {
-        &self.rows[0..self.sizes.blocks as usize * self.sizes.chunks as usize]
+        &self.rows[0..self.sizes.count()]
     }
 
     // How each block stands.
@@ -41,7 +41,7 @@ impl Index {
     pub fn place(&self, row: usize) -> Option<Place>
         ensures { MatchOption result (self.now.sizes.blocks * self.now.sizes.chunks ≤ row) (λ q. (row < self.now.sizes.blocks * self.now.sizes.chunks) × (q.block ≡ row / self.now.sizes.chunks) × (q.chunk ≡ row % self.now.sizes.chunks)) }
     {
-        if row >= self.sizes.blocks as usize * self.sizes.chunks as usize {
+        if row >= self.sizes.count() {
             return None;
         }
         Some(place_of(row, self.sizes))
@@ -49,14 +49,14 @@ impl Index {
 }
 
 // Looks at every chunk, in rising place, and notes what it is.
-pub(crate) fn scan<C: Chip>(chip: &C, sizes: Sizes, rows: &mut [Look]) -> Result<(), Fault>
+pub(crate) fn scan_rows<C: Chip>(chip: &C, sizes: Sizes, rows: &mut [Look]) -> Result<(), Fault>
     requires sizes { Sized (C.Chip.model chip.now) sizes }
     requires on { (C.Chip.model chip.now).on ≡ true }
     requires rows { length rows.old ≡ sizes.blocks * sizes.chunks }
     ensures { Scanned (C.Chip.model chip.now) result rows.new }
 {
-    for i in 0..rows.len() {
-        rows[i] = chip.look(place_of(i, sizes))?;
+    for (row, look) in rows.iter_mut().enumerate() {
+        *look = chip.look(place_of(row, sizes))?;
     }
     Ok(())
 }

@@ -1,0 +1,47 @@
+ghost use Rattle.std.specs.Prelude.{◌≡◌, ◌<◌, true, length, slice_index_or};
+ghost use Rattle.flash.specs.declared.chunks.Look.TheVariants.{Blank, Record as RecordL};
+ghost use Rattle.rules.specs.Mounting.{sizes_fit};
+ghost use Rattle.scan.specs.Scans.{AllWhole};
+ghost use Rattle.scan.specs.Tables.{TableOf, PlaceOf, DataOf};
+
+use crate::scans::place_of;
+use flash::{Chip, Fault, Look, Place, Sizes, Tag};
+
+// What a scan found: a chip that is on, its sizes, which a store takes, and what a look told of each chunk.
+#[derive(Drop)]
+pub(crate) struct Scan<'a, C: Chip> {
+    pub(crate) chip: &'a C,
+    pub(crate) sizes: Sizes,
+    pub(crate) rows: &'a [Look],
+    ghost table: { TableOf (C.Chip.model chip.now) sizes rows.now },
+    ghost fit: { sizes_fit sizes.blocks sizes.chunks ≡ true },
+    ghost whole: { AllWhole (C.Chip.model chip.now) },
+}
+
+// A record that a scan found: its row, and its four numbers.
+#[derive(Drop)]
+pub(crate) struct Entry<'s, 'a, C: Chip> {
+    pub(crate) scan: &'s Scan<'a, C>,
+    pub(crate) row: usize,
+    pub(crate) tag: Tag,
+    ghost there: { row < length scan.now.rows.now },
+    ghost told: { slice_index_or scan.now.rows.now row Blank ≡ RecordL tag },
+}
+
+impl<C: Chip> Entry<'_, '_, C> {
+    // Where the record stands.
+    pub(crate) fn place(&self) -> Place
+        ensures { PlaceOf (C.Chip.model self.now.scan.now.chip.now) self.now.row result }
+    {
+        place_of(self.row, self.scan.sizes)
+    }
+
+    // The record's data bytes.
+    pub(crate) fn data(&self) -> Result<[u8; 2048], Fault>
+        ensures { DataOf (C.Chip.model self.now.scan.now.chip.now) self.now.row self.now.tag result }
+    {
+        let mut data = [0u8; 2048];
+        self.scan.chip.fetch(self.place(), &mut data)?;
+        Ok(data)
+    }
+}
