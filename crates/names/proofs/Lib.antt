@@ -1,3 +1,2 @@
-pub mod Spelled
-pub mod Written
+pub mod Taken
 pub mod Mirrored

@@ -5,6 +5,7 @@
 mod asking;
 mod changing;
 pub mod entries;
+mod name;
 
 pub use entries::Names;
 

@@ -1,9 +1,6 @@
-use Rattle.std.proofs.Common.{vec_items}
+use Rattle.names.specs.Names.{entries_of}
 use Rattle.names.proofs.Mirrored.{find-mirrored}
 use Rattle.names.proofs.entries.Names.find.Goals as goal
 
-pub returns : goal.returns
-returns c = record {
-  lowest = c.find_from.ensures;
-  files = λ fs m. find-mirrored (vec_items c.args.self.now.bytes) fs m c.args.name.now c.find_from.result c.find_from.ensures;
-}
+pub returns-clause-files : goal.returns-clause-files
+returns-clause-files c fs m = find-mirrored (entries_of c.args.self.now) fs m _ _ c.lowest.ensures
