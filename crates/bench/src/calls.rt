@@ -5,6 +5,7 @@ ghost use Rattle.bench.specs.Acts.{ByPlan, ProgramActs, EraseActs, Restarted};
 ghost use Rattle.bench.specs.Benches.{state_of};
 
 use crate::benches::BenchChip;
+use crate::rows::all_blank;
 use flash::{Act, Chip, Chunk, Fault, Look, Place, Purpose, Record, Sizes};
 
 impl Chip for BenchChip {
@@ -21,13 +22,11 @@ impl Chip for BenchChip {
 
     fn fetch(&self, at: Place, buffer: &mut [u8; 2048]) -> Result<(), Fault> {
         let row = self.row(at)?;
-        match &self.rows[row] {
-            Chunk::Holds(record) => {
-                *buffer = record.bytes;
-                Ok(())
-            }
-            _ => Err(Fault::NoRecord),
-        }
+        let Chunk::Holds(record) = &self.rows[row] else {
+            return Err(Fault::NoRecord);
+        };
+        *buffer = record.bytes;
+        Ok(())
     }
 
     fn program(&mut self, purpose: Purpose, at: Place, record: &Record) -> Result<(), Fault>
@@ -35,13 +34,16 @@ impl Chip for BenchChip {
         ensures plan { ByPlan self.old result self.new (ProgramActs self.old at «record».now self.new) }
     {
         let row = self.row(at)?;
-        if !self.blank_from(row, at) {
+        let end = row + (self.sizes.chunks - at.chunk) as usize;
+        if !all_blank(&self.rows[row..end]) {
             return Err(Fault::NotBlank);
         }
-        if self.fill(row, at, record) {
-            return Err(Fault::SupplyFailed(purpose.at(at)));
-        }
-        Ok(())
+        let fails = self.due();
+        let new = Chunk::Holds(*record);
+        self.rows[row] = self
+            .plan
+            .leaves(fails, at.chunk as usize, Chunk::Blank, new);
+        self.count(purpose.at(at))
     }
 
     fn erase(&mut self, block: u32) -> Result<(), Fault>
@@ -54,10 +56,8 @@ impl Chip for BenchChip {
         if block >= self.sizes.blocks {
             return Err(Fault::NoSuchPlace);
         }
-        if self.clear(block) {
-            return Err(Fault::SupplyFailed(Act::Erasing(block)));
-        }
-        Ok(())
+        self.remake(block);
+        self.count(Act::Erasing(block))
     }
 
     fn restart(&mut self)
