@@ -3,6 +3,7 @@ use Rattle.std.proofs.Common.{◌≡◌, ℕ, ◌+◌, ◌-◌, ◌*◌, ◌<◌
 use Rattle.std.proofs.lemmas.List.{places, get_or-set_same, get_or-set_other, length-take-le, length-drop}
 use Rattle.std.proofs.lemmas.Nat.{rows, same_from_place}
 use Rattle.std.proofs.lemmas.Bool.{cases_lt}
+use Rattle.std.specs.declared.ops.Range.{Range}
 use Rattle.flash.specs.declared.chunks.Chunk.{Chunk}
 use Rattle.flash.specs.declared.chunks.Chunk.TheVariants.{Blank, Damaged, Holds}
 use Rattle.flash.specs.declared.chunks.Record.{Record}
@@ -20,7 +21,7 @@ use Rattle.bench.specs.declared.plans.Plan.{Plan}
 use Rattle.bench.specs.Plans.{bit, outcome}
 use Rattle.bench.specs.Benches.{cell_at, state_of}
 use Rattle.bench.specs.Acts.{due, left_in, Acted, Remade, ProgramActs, EraseActs}
-use Rattle.bench.specs.Rows.{AllBlank, IsRow, Counted}
+use Rattle.bench.specs.Rows.{AllBlank, AreRows, Counted}
 
 -- the rows of a block made anew are a block changed
 block-put : (P : Chunk → Chunk → Type 0) (f : ℕ → Chunk → Chunk) (s t : BenchChip) (b : ℕ) → t.sizes ≡ s.sizes
@@ -50,25 +51,24 @@ left-allowed : (q : Plan) (c : ℕ) (old new : Chunk) → LeftByProgram old new 
 left-allowed q c old new = allowed (bit q.takes c) (bit q.damages c) old new
 
 -- the rest of a block, as rows and as chunks
-rest_at : (s : BenchChip) (q : Place) (i m k : ℕ) (zs : List Chunk) → IsRow s q i → zs ≡ vec_items s.rows → k < m → get_or (take m (drop i zs)) k Blank ≡ (state_of s).cells q.block (q.chunk + k)
-rest_at s q i m k zs r e h =
-    let n : i + k ≡ q.block * s.sizes.chunks + (q.chunk + k) = omega (arith, r.row_is) in
+rest_at : (s : BenchChip) (q : Place) (r : Range ℕ) (k : ℕ) (zs : List Chunk) → AreRows s q r → zs ≡ vec_items s.rows → k < r.end - r.start → get_or (take (r.end - r.start) (drop r.start zs)) k Blank ≡ (state_of s).cells q.block (q.chunk + k)
+rest_at s q r k zs w e h =
+    let n : r.start + k ≡ q.block * s.sizes.chunks + (q.chunk + k) = omega (arith, w.start_is) in
     search (rules, places) ∙ (λ j. get_or (e j) (n j) Blank)
 
-rest-length : (s : BenchChip) (q : Place) (i m : ℕ) (zs : List Chunk) → IsRow s q i → zs ≡ vec_items s.rows → m ≡ s.sizes.chunks - q.chunk → length (take m (drop i zs)) ≡ m
-rest-length s q i m zs r e h = length-take-le m (drop i zs) (omega (arith, length-drop i zs, ap length e, r.block_fits, s.rows.ok.0))
+rest-length : (s : BenchChip) (q : Place) (r : Range ℕ) (zs : List Chunk) → AreRows s q r → zs ≡ vec_items s.rows → length (take (r.end - r.start) (drop r.start zs)) ≡ s.sizes.chunks - q.chunk
+rest-length s q r zs w e = length-take-le (r.end - r.start) (drop r.start zs) (omega (arith, length-drop r.start zs, ap length e, w.block_fits, w.end_is, s.rows.ok.0)) ∙ omega (arith, w.end_is)
 
-pub blank-rest : (s : BenchChip) (q : Place) (i m : ℕ) (zs : List Chunk) → IsRow s q i → zs ≡ vec_items s.rows → m ≡ s.sizes.chunks - q.chunk → AllBlank (take m (drop i zs)) → BlankFrom (state_of s) q
-blank-rest s q i m zs r e em a k l h =
+pub blank-rest : (s : BenchChip) (q : Place) (r : Range ℕ) (zs : List Chunk) → AreRows s q r → zs ≡ vec_items s.rows → AllBlank (take (r.end - r.start) (drop r.start zs)) → BlankFrom (state_of s) q
+blank-rest s q r zs w e a k l h =
     let j = k - q.chunk in
-    let hj : j < m = omega arith in
     let n : k ≡ q.chunk + j = omega arith in
-    ap (λ (z : ℕ). (state_of s).cells q.block z) n ∙ sym (rest_at s q i m j zs r e hj) ∙ a j (omega (arith, rest-length s q i m zs r e em))
+    ap (λ (z : ℕ). (state_of s).cells q.block z) n ∙ sym (rest_at s q r j zs w e (omega (arith, w.end_is))) ∙ a j (omega (arith, rest-length s q r zs w e))
 
-pub rest-blank : (s : BenchChip) (q : Place) (i m : ℕ) (zs : List Chunk) → IsRow s q i → zs ≡ vec_items s.rows → m ≡ s.sizes.chunks - q.chunk → BlankFrom (state_of s) q → AllBlank (take m (drop i zs))
-rest-blank s q i m zs r e em a k h =
-    let hk : k < m = omega (arith, rest-length s q i m zs r e em) in
-    rest_at s q i m k zs r e hk ∙ a (q.chunk + k) (omega arith) (omega arith)
+pub rest-blank : (s : BenchChip) (q : Place) (r : Range ℕ) (zs : List Chunk) → AreRows s q r → zs ≡ vec_items s.rows → BlankFrom (state_of s) q → AllBlank (take (r.end - r.start) (drop r.start zs))
+rest-blank s q r zs w e a k h =
+    let l = rest-length s q r zs w e in
+    rest_at s q r k zs w e (omega (arith, w.end_is)) ∙ a (q.chunk + k) (omega arith) (omega arith)
 
 -- what an act answers: it fails where it is due
 abbrev pub Told : BenchChip → Act → Result (Unit {0}) Fault → Type 0
@@ -96,15 +96,14 @@ erased s m t b (Err f) on h e d a =
     )
 
 -- a program changes the row of its place; in m that is done, and t has counted it
-pub program-acts : (s m t : BenchChip) (q : Place) (i : ℕ) (r : Record) (f : Bool) (v : Chunk) → IsRow s q i → BlankFrom (state_of s) q → f ≡ due s
-    → v ≡ cond f (outcome s.plan q.chunk Blank (Holds r)) (Holds r) → vec_items m.rows ≡ set (vec_items s.rows) i v → Counted m t → Acted s t → ProgramActs s q r t
-program-acts s m t q i r f v w b d e x a h =
+pub program-acts : (s m t : BenchChip) (q : Place) (r : Range ℕ) (c : Record) (v : Chunk) → AreRows s q r → BlankFrom (state_of s) q → v ≡ left_in s q.chunk Blank (Holds c)
+    → vec_items m.rows ≡ set (vec_items s.rows) r.start v → Counted m t → Acted s t → ProgramActs s q c t
+program-acts s m t q r c v w b e x a h =
     let old : Blank ≡ cell_at (vec_items s.rows) s.sizes.chunks q.block q.chunk = sym (b q.chunk (omega arith) w.within.chunk) in
-    let is : v ≡ left_in s q.chunk (cell_at (vec_items s.rows) s.sizes.chunks q.block q.chunk) (Holds r) = e ∙ (λ j. cond (d j) (outcome s.plan q.chunk (old j) (Holds r)) (Holds r)) in
-    record { acted = h; rows_are = ap vec_items a.rows_stay ∙ x ∙ (λ j. set (vec_items s.rows) (w.row_is j) (is j)) }
+    record { acted = h; rows_are = ap vec_items a.rows_stay ∙ x ∙ (λ j. set (vec_items s.rows) (w.start_is j) ((e ∙ ap (λ (z : Chunk). left_in s q.chunk z (Holds c)) old) j)) }
 
 -- a program, done and failed
-program-puts : (s t : BenchChip) (q : Place) (i : ℕ) (r : Record) → IsRow s q i → ProgramActs s q r t
+program-puts : (s t : BenchChip) (q : Place) (i : Range ℕ) (r : Record) → AreRows s q i → ProgramActs s q r t
     → Put (state_of s) q.block q.chunk (left_in s q.chunk ((state_of s).cells q.block q.chunk) (Holds r)) (state_of t)
 program-puts s t q i r w a =
     let p = s.sizes.chunks in
@@ -116,12 +115,12 @@ program-puts s t q i r w a =
     record {
       n_same = ap (λ (z : Sizes). z.blocks) e;
       p_same = ap (λ (z : Sizes). z.chunks) e;
-      here = at q.block q.chunk ∙ get_or-set_same (vec_items s.rows) n v Blank (omega (arith, w.row_is, w.block_fits, w.within.chunk, s.rows.ok.0));
+      here = at q.block q.chunk ∙ get_or-set_same (vec_items s.rows) n v Blank (omega (arith, w.start_is, w.end_is, w.block_fits, w.within.chunk, s.rows.ok.0));
       there = λ k j hk hj d. at k j ∙ get_or-set_other (vec_items s.rows) n (k * p + j) v Blank
           (λ g. let u = same_from_place k j q.block q.chunk p hj w.within.chunk g in ⊎_elim (λ x. x u.0) (λ x. x u.1) d);
     }
 
-pub programmed : (s t : BenchChip) (u : Purpose) (q : Place) (i : ℕ) (c : Record) (e : Act) (r : Result (Unit {0}) Fault) → IsRow s q i → BlankFrom (state_of s) q → e ≡ act_of u q → Told s e r
+pub programmed : (s t : BenchChip) (u : Purpose) (q : Place) (i : Range ℕ) (c : Record) (e : Act) (r : Result (Unit {0}) Fault) → AreRows s q i → BlankFrom (state_of s) q → e ≡ act_of u q → Told s e r
     → ProgramActs s q c t → Programmed (state_of s) u q c r (state_of t)
 programmed s t u q i c e (Ok v) w b g d a = record {
   taken = record { ready = w.ready; within = w.within; blanks = b };

@@ -15,8 +15,8 @@ pub record Begun (f : ℕ → Chunk → Chunk) (c : ℕ) (xs ys : List Chunk) : 
   pub there : (j : ℕ) → c ≤ j → get_or ys j Blank ≡ get_or xs j Blank
 
 -- one chunk more
-pub begun-more : (f : ℕ → Chunk → Chunk) (c : ℕ) (xs ys : List Chunk) (v : Chunk) → c < length ys → Begun f c xs ys → v ≡ f c (get_or ys c Blank) → Begun f (c + 1) xs (set ys c v)
-begun-more f c xs ys v h b e = record {
+pub begun_more : (f : ℕ → Chunk → Chunk) (c : ℕ) (xs ys : List Chunk) (v : Chunk) → c < length ys → Begun f c xs ys → v ≡ f c (get_or ys c Blank) → Begun f (c + 1) xs (set ys c v)
+begun_more f c xs ys v h b e = record {
   here = λ j l. ⊎_elim
       (λ (x : j ≡ c). ap (λ (z : ℕ). get_or (set ys c v) z Blank) x ∙ get_or-set_same ys c v Blank h ∙ e ∙ ap (f c) (b.there c (let l : c ≤ c = omega arith in l)) ∙ ap (λ (z : ℕ). f z (get_or xs z Blank)) (sym x))
       (λ x. get_or-set_other ys c j v Blank x ∙ b.here j (omega arith))

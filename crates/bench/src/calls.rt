@@ -16,13 +16,13 @@ impl Chip for BenchChip {
     }
 
     fn look(&self, at: Place) -> Result<Look, Fault> {
-        let row = self.row(at)?;
-        Ok(self.rows[row].look())
+        let rows = self.rows_from(at)?;
+        Ok(self.rows[rows.start].look())
     }
 
     fn fetch(&self, at: Place, buffer: &mut [u8; 2048]) -> Result<(), Fault> {
-        let row = self.row(at)?;
-        let Chunk::Holds(record) = &self.rows[row] else {
+        let rows = self.rows_from(at)?;
+        let Chunk::Holds(record) = &self.rows[rows.start] else {
             return Err(Fault::NoRecord);
         };
         *buffer = record.bytes;
@@ -33,16 +33,11 @@ impl Chip for BenchChip {
         ensures rules { Programmed (state_of self.old) purpose at «record».now result (state_of self.new) }
         ensures plan { ByPlan self.old result self.new (ProgramActs self.old at «record».now self.new) }
     {
-        let row = self.row(at)?;
-        let end = row + (self.sizes.chunks - at.chunk) as usize;
-        if !all_blank(&self.rows[row..end]) {
+        let rows = self.rows_from(at)?;
+        if !all_blank(&self.rows[rows.start..rows.end]) {
             return Err(Fault::NotBlank);
         }
-        let fails = self.due();
-        let new = Chunk::Holds(*record);
-        self.rows[row] = self
-            .plan
-            .leaves(fails, at.chunk as usize, Chunk::Blank, new);
+        self.rows[rows.start] = self.filled(at.chunk, record);
         self.count(purpose.at(at))
     }
 

@@ -1,11 +1,12 @@
 ghost use Rattle.std.specs.Prelude.{◌≡◌, ◌<◌, ◌↔◌, true, false, IsTrue, MatchResult};
-ghost use Rattle.flash.specs.declared.chunks.Chunk.TheVariants.{Blank};
+ghost use Rattle.flash.specs.declared.chunks.Chunk.TheVariants.{Blank, Holds};
 ghost use Rattle.flash.specs.declared.faults.Fault.TheVariants.{SupplyFailed};
 ghost use Rattle.bench.specs.Acts.{due, left_in, Remade};
 ghost use Rattle.bench.specs.Rows.{AllBlank, Found, Counted};
 
 use crate::benches::BenchChip;
-use flash::{Act, Chunk, Fault, Place};
+use flash::{Act, Chunk, Fault, Place, Record};
+use std::ops::Range;
 
 // Whether all these chunks are blank.
 pub(crate) fn all_blank(chunks: &[Chunk]) -> bool
@@ -15,8 +16,8 @@ pub(crate) fn all_blank(chunks: &[Chunk]) -> bool
 }
 
 impl BenchChip {
-    // The row of a place, unless the chip is off or has no such place.
-    pub(crate) fn row(&self, at: Place) -> Result<usize, Fault>
+    // The rows of a chunk and all later ones of its block, unless the chip is off or has no such place.
+    pub(crate) fn rows_from(&self, at: Place) -> Result<Range<usize>, Fault>
         ensures { Found self.now at result }
     {
         if !self.on {
@@ -25,7 +26,9 @@ impl BenchChip {
         if at.block >= self.sizes.blocks || at.chunk >= self.sizes.chunks {
             return Err(Fault::NoSuchPlace);
         }
-        Ok(at.block as usize * self.sizes.chunks as usize + at.chunk as usize)
+        let row = at.block as usize * self.sizes.chunks as usize + at.chunk as usize;
+        let end = row + (self.sizes.chunks - at.chunk) as usize;
+        Ok(row..end)
     }
 
     // Whether the next act is the one that fails.
@@ -50,7 +53,17 @@ impl BenchChip {
         }
     }
 
-    // Makes every chunk of a block blank or, where the erase fails, what the plan leaves.
+    // What the next act leaves in a blank chunk if it is a program.
+    pub(crate) fn filled(&self, chunk: u32, record: &Record) -> Chunk
+        ensures { result ≡ left_in self.now chunk Blank (Holds «record».now) }
+    {
+        let fails = self.due();
+        let new = Chunk::Holds(*record);
+        self.plan.leaves(fails, chunk as usize, Chunk::Blank, new)
+    }
+
+    // Makes every chunk of a block what the next act leaves in it if it is an erase.
+    #[tactic(auto, using(crate::proofs::Remaking::begun_more))]
     pub(crate) fn remake(&mut self, block: u32)
         requires { block < self.old.sizes.blocks }
         ensures does { Remade (λ c x. left_in self.old c x Blank) self.old.sizes.chunks block self.old.sizes.chunks self.old.rows.items self.new.rows.items }

@@ -1,15 +1,10 @@
-use Rattle.std.proofs.Common.{◌≡◌, ◌+◌, ◌-◌, ◌*◌, ◌≤◌, Bool, get_or, cond, length, ap, ◌∙◌, arith}
+use Rattle.std.proofs.Common.{◌≡◌, ◌+◌, ◌-◌, ◌*◌, ◌≤◌, length, arith}
 use Rattle.std.proofs.Math.Nat.{le_refl}
 use Rattle.std.proofs.lemmas.Nat.{row_fits}
 use Rattle.flash.specs.declared.chunks.Chunk.TheVariants.{Blank}
-use Rattle.bench.specs.Plans.{outcome}
 use Rattle.bench.specs.Acts.{left_in}
-use Rattle.bench.proofs.Remaking.{begun-more, remade}
+use Rattle.bench.proofs.Remaking.{remade}
 use Rattle.bench.proofs.benches.BenchChip.remake.Goals as goal
-
-pub loop-c-preserved : goal.loop-c-preserved
-loop-c-preserved c = begun-more _ c.loop-c.c _ c.loop-c.chunk-items c.leaves.result (omega arith) c.loop-c.invariant
-    (c.leaves.ensures ∙ ap (λ (d : Bool). cond d (outcome c.args.self.now.plan c.loop-c.c (get_or c.loop-c.chunk-items c.loop-c.c Blank) Blank) Blank) c.due-fails.ensures)
 
 pub returns-clause-does : goal.returns-clause-does
 returns-clause-does c =
