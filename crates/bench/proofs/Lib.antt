@@ -1,4 +1,3 @@
-pub mod Places
 pub mod Remaking
 pub mod Acting
 pub mod Counting

@@ -1,22 +1,43 @@
 -- A block that is made anew, chunk by chunk. Assumes nothing.
-use Rattle.std.proofs.Common.{◌≡◌, ℕ, ◌+◌, ◌*◌, ◌<◌, ◌≤◌, ◌≢◌, List, length, set, sym, ap, ◌∙◌, inl, inr, ⊎_elim, arith}
-use Rattle.std.proofs.lemmas.List.{get_or-set_same, get_or-set_other, length-set}
+use Rattle.std.proofs.Common.{◌≡◌, ℕ, ◌+◌, ◌*◌, ◌<◌, ◌≤◌, List, length, get_or, take, drop, set, sym, ap, ◌∙◌, subst, vec_items, Vec, ⊎_elim, arith, rules}
+use Rattle.std.specs.Vec.{with_items}
+use borrow.Rule.Slice.PartMut.{put_mid}
+use Rattle.std.proofs.lemmas.Grind.{elements}
+use Rattle.std.proofs.lemmas.List.{places, length-take-le, length-drop, get_or-set_same, get_or-set_other, with_items_is}
 use Rattle.std.proofs.lemmas.Bool.{cases_eq}
 use Rattle.flash.specs.declared.chunks.Chunk.{Chunk}
 use Rattle.flash.specs.declared.chunks.Chunk.TheVariants.{Blank}
-use Rattle.bench.specs.Benches.{cell_at}
 use Rattle.bench.specs.Acts.{Remade}
 
+-- the first c of these chunks are what f makes of them
+pub record Begun (f : ℕ → Chunk → Chunk) (c : ℕ) (xs ys : List Chunk) : Type 0 where
+  pub here : (j : ℕ) → j < c → get_or ys j Blank ≡ f j (get_or xs j Blank)
+  pub there : (j : ℕ) → c ≤ j → get_or ys j Blank ≡ get_or xs j Blank
+
 -- one chunk more
-pub remade-more : (f : ℕ → Chunk → Chunk) (p b c : ℕ) (xs ys : List Chunk) (v : Chunk) → b * p + c < length ys → Remade f p b c xs ys → v ≡ f c (cell_at xs p b c) → Remade f p b (c + 1) xs (set ys (b * p + c) v)
-remade-more f p b c xs ys v h i e = record {
-  count_same = length-set ys (b * p + c) v ∙ i.count_same;
+pub begun_more : (f : ℕ → Chunk → Chunk) (c : ℕ) (xs ys : List Chunk) (v : Chunk) → c < length ys → Begun f c xs ys → v ≡ f c (get_or ys c Blank) → Begun f (c + 1) xs (set ys c v)
+begun_more f c xs ys v h b e = record {
   here = λ j l. ⊎_elim
-      (λ (x : j ≡ c). ap (λ (z : ℕ). cell_at (set ys (b * p + c) v) p b z) x ∙ get_or-set_same ys (b * p + c) v Blank h ∙ e ∙ ap (λ (z : ℕ). f z (cell_at xs p b z)) (sym x))
-      (λ (x : j ≢ c). let ne : (b * p + j) ≢ (b * p + c) = omega arith in get_or-set_other ys (b * p + c) (b * p + j) v Blank ne ∙ i.here j (omega arith))
+      (λ (x : j ≡ c). ap (λ (z : ℕ). get_or (set ys c v) z Blank) x ∙ get_or-set_same ys c v Blank h ∙ e ∙ ap (f c) (b.there c (let l : c ≤ c = omega arith in l)) ∙ ap (λ (z : ℕ). f z (get_or xs z Blank)) (sym x))
+      (λ x. get_or-set_other ys c j v Blank x ∙ b.here j (omega arith))
       (cases_eq j c);
-  there = λ k d. ⊎_elim
-      (λ (x : k < b * p). let ne : k ≢ (b * p + c) = omega arith in get_or-set_other ys (b * p + c) k v Blank ne ∙ i.there k (inl x))
-      (λ (x : b * p + (c + 1) ≤ k). let ne : k ≢ (b * p + c) = omega arith in let y : b * p + c ≤ k = omega arith in get_or-set_other ys (b * p + c) k v Blank ne ∙ i.there k (inr y))
-      d;
+  there = λ j l. grind (arith, elements, b.there j);
 }
+
+-- all of them, in the rows of block b
+remade-part : (f : ℕ → Chunk → Chunk) (p b k n : ℕ) (xs ys : List Chunk) → k ≡ p → p ≤ n → b * p + p ≤ length xs → length ys ≡ p → Begun f n (take k (drop (b * p) xs)) ys
+    → Remade f p b p xs (put_mid (b * p) k xs ys)
+remade-part f p b k n xs ys ek hn h l m = record {
+  count_same = search (rules, places);
+  here = λ j g. search (rules, places) ∙ m.here j (omega arith) ∙ ap (f j) (search (rules, places));
+  there = λ i d. search (rules, places);
+}
+
+pub remade : {Z : Type 0} (f : ℕ → Chunk → Chunk) (p b k n : ℕ) (v : Vec Chunk Z) (xs ys : List Chunk) → xs ≡ vec_items v → k ≡ p → b * p + p ≤ length xs
+    → length (take k (drop (b * p) xs)) ≤ n → length ys ≡ length (take k (drop (b * p) xs)) → Begun f n (take k (drop (b * p) xs)) ys → Remade f p b p (vec_items v) (vec_items (with_items v (put_mid (b * p) k xs ys)))
+remade f p b k n v xs ys e ek h hn l m =
+    let part : length (take k (drop (b * p) xs)) ≡ p = length-take-le k (drop (b * p) xs) (omega (arith, length-drop (b * p) xs)) ∙ ek in
+    let ws = put_mid (b * p) k xs ys in
+    let r = remade-part f p b k n xs ys ek (omega arith) h (l ∙ part) m in
+    let P : List Chunk → Type 0 = λ zs. Remade f p b p zs (vec_items (with_items v ws)) in
+    subst P e (subst (Remade f p b p xs) (sym (with_items_is v ws (r.count_same ∙ ap length e ∙ sym v.ok.0))) r)

@@ -5,6 +5,7 @@ ghost use Rattle.bench.specs.Acts.{ByPlan, ProgramActs, EraseActs, Restarted};
 ghost use Rattle.bench.specs.Benches.{state_of};
 
 use crate::benches::BenchChip;
+use crate::rows::all_blank;
 use flash::{Act, Chip, Chunk, Fault, Look, Place, Purpose, Record, Sizes};
 
 impl Chip for BenchChip {
@@ -15,33 +16,29 @@ impl Chip for BenchChip {
     }
 
     fn look(&self, at: Place) -> Result<Look, Fault> {
-        let row = self.row(at)?;
-        Ok(self.rows[row].look())
+        let rows = self.rows_from(at)?;
+        Ok(self.rows[rows.start].look())
     }
 
     fn fetch(&self, at: Place, buffer: &mut [u8; 2048]) -> Result<(), Fault> {
-        let row = self.row(at)?;
-        match &self.rows[row] {
-            Chunk::Holds(record) => {
-                *buffer = record.bytes;
-                Ok(())
-            }
-            _ => Err(Fault::NoRecord),
-        }
+        let rows = self.rows_from(at)?;
+        let Chunk::Holds(record) = &self.rows[rows.start] else {
+            return Err(Fault::NoRecord);
+        };
+        *buffer = record.bytes;
+        Ok(())
     }
 
     fn program(&mut self, purpose: Purpose, at: Place, record: &Record) -> Result<(), Fault>
         ensures rules { Programmed (state_of self.old) purpose at «record».now result (state_of self.new) }
         ensures plan { ByPlan self.old result self.new (ProgramActs self.old at «record».now self.new) }
     {
-        let row = self.row(at)?;
-        if !self.blank_from(row, at) {
+        let rows = self.rows_from(at)?;
+        if !all_blank(&self.rows[rows.start..rows.end]) {
             return Err(Fault::NotBlank);
         }
-        if self.fill(row, at, record) {
-            return Err(Fault::SupplyFailed(purpose.at(at)));
-        }
-        Ok(())
+        self.rows[rows.start] = self.filled(at.chunk, record);
+        self.count(purpose.at(at))
     }
 
     fn erase(&mut self, block: u32) -> Result<(), Fault>
@@ -54,10 +51,8 @@ impl Chip for BenchChip {
         if block >= self.sizes.blocks {
             return Err(Fault::NoSuchPlace);
         }
-        if self.clear(block) {
-            return Err(Fault::SupplyFailed(Act::Erasing(block)));
-        }
-        Ok(())
+        self.remake(block);
+        self.count(Act::Erasing(block))
     }
 
     fn restart(&mut self)

@@ -10,44 +10,36 @@ impl BenchChip {
     pub fn new(rows: Vec<Chunk>, sizes: Sizes, plan: Plan) -> Result<BenchChip, Unmade<BenchChip>>
         ensures { Made rows sizes plan result }
     {
-        let left = plan.fails;
-        if rows.len() == sizes.blocks as usize * sizes.chunks as usize {
-            let on = false;
+        if rows.len() == sizes.count() {
             return Ok(BenchChip {
                 rows,
                 sizes,
-                on,
+                on: false,
                 plan,
-                left,
+                left: plan.fails,
             });
         }
-        let sizes = Sizes {
-            blocks: 0,
-            chunks: 0,
-        };
         let chip = BenchChip {
             rows,
-            sizes,
+            sizes: Sizes {
+                blocks: 0,
+                chunks: 0,
+            },
             on: true,
             plan,
-            left,
+            left: plan.fails,
         };
-        let why = Misfit::Length;
-        Err(Unmade { chip, why })
+        Err(Unmade {
+            chip,
+            why: Misfit::Length,
+        })
     }
 
     // The rows, as the calls have left them.
     pub fn into_rows(self) -> Vec<Chunk>
         ensures { result ≡ self.rows }
     {
-        let BenchChip {
-            rows,
-            sizes: _,
-            on: _,
-            plan: _,
-            left: _,
-        } = self;
-        rows
+        self.rows
     }
 
     pub fn is_on(&self) -> bool

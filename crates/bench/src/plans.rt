@@ -1,4 +1,4 @@
-ghost use Rattle.std.specs.Prelude.{◌≡◌};
+ghost use Rattle.std.specs.Prelude.{◌≡◌, if◌then◌else◌};
 ghost use Rattle.bench.specs.Plans.{bit, outcome};
 
 use flash::Chunk;
@@ -14,18 +14,18 @@ pub struct Plan {
     pub takes: u64,
 }
 
-fn has(word: u64, chunk: u32) -> bool
+fn has(word: u64, chunk: usize) -> bool
     ensures { result ≡ bit word chunk }
 {
     chunk < 64 && (word >> chunk) % 2 == 1
 }
 
 impl Plan {
-    // What the failing act leaves in a chunk.
-    pub(crate) fn leaves(&self, chunk: u32, old: Chunk, new: Chunk) -> Chunk
-        ensures { result ≡ outcome self.now chunk old new }
+    // What an act leaves in a chunk: its new content or, where it fails, what the plan says.
+    pub(crate) fn leaves(&self, fails: bool, chunk: usize, old: Chunk, new: Chunk) -> Chunk
+        ensures { result ≡ (if fails then outcome self.now chunk old new else new) }
     {
-        if has(self.takes, chunk) {
+        if !fails || has(self.takes, chunk) {
             new
         } else if has(self.damages, chunk) {
             Chunk::Damaged

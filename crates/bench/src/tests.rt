@@ -29,18 +29,13 @@ fn record(serial: u32) -> Record {
 
 // Rows with a record each, whose serial is the row.
 fn full(heap: Global, count: u32) -> Result<Vec<Chunk>, Fail> {
-    let mut rows = Vec::new(heap);
-    for i in 0..count {
-        rows.push(Chunk::Holds(record(i)))?;
-    }
+    let rows = (0..count).map(|i| Chunk::Holds(record(i))).collect(heap)?;
     Ok(rows)
 }
 
 fn chip(rows: Vec<Chunk>, blocks: u32, chunks: u32, plan: Plan) -> Result<BenchChip, Fail> {
-    match BenchChip::new(rows, Sizes { blocks, chunks }, plan) {
-        Ok(chip) => Ok(chip),
-        Err(_) => Err(Fail::new("the rows do not fit")),
-    }
+    let made = BenchChip::new(rows, Sizes { blocks, chunks }, plan);
+    made.map_err(|_| Fail::new("the rows do not fit"))
 }
 
 fn at(block: u32, chunk: u32) -> Place {

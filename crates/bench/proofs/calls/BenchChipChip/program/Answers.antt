@@ -1,19 +1,20 @@
-use Rattle.std.proofs.Common.{sym}
-use Rattle.bench.proofs.Acting.{program-done, program-fails}
+use Rattle.std.proofs.Common.{◌≡◌, true, false, refl, rules}
+use Rattle.bench.proofs.Acting.{blank-rest, rest-blank, program-acts, programmed}
 use Rattle.bench.proofs.calls.BenchChipChip.program.Goals as goal
 
-pub returns-then-fill : goal.returns-then-fill
-returns-then-fill c =
-    let d = sym c.if-fill.ensures.value in
-    record {
-      rules = (c.at.ensures, program-fails c.args.self.now c.fill.new.self c.args.at c.in_ok-row.row c.args.record.now c.in_ok-row.ensures c.if-not-blank_from.ensures d c.fill.ensures.after);
-      plan = (d, c.fill.ensures.after);
-    }
+pub returns-then-not-all_blank-clause-rules : goal.returns-then-not-all_blank-clause-rules
+returns-then-not-all_blank-clause-rules c =
+    let w = c.in_ok-rows.ensures in
+    (w.ready, w.within, λ b. let e : false ≡ true = c.if-not-all_blank.ensures.1 (rest-blank c.args.self.now c.args.at c.in_ok-rows.rows c.deref.result.now w c.deref.ensures.value b) in cc, refl)
 
 pub returns : goal.returns
 returns c =
-    let d = sym c.if-fill.ensures.value in
-    record {
-      rules = program-done c.args.self.now c.fill.new.self c.args.at c.in_ok-row.row c.args.record.now c.in_ok-row.ensures c.if-not-blank_from.ensures d c.fill.ensures.after;
-      plan = (d, c.fill.ensures.after);
-    }
+    let s = c.args.self.now in
+    let t = c.count.new.self in
+    let q = c.args.at in
+    let i = c.in_ok-rows.rows in
+    let r = c.args.record.now in
+    let w = c.in_ok-rows.ensures in
+    let b = blank-rest s q i c.deref.result.now w c.deref.ensures.value (c.if-not-all_blank.ensures.0 refl) in
+    let a = program-acts s _ t q i r c.filled.result w b c.filled.ensures refl c.count.ensures.after (search rules) in
+    record { rules = programmed s t c.args.purpose q i r c.at.result c.count.result w b c.at.ensures c.count.ensures.told a; plan = search rules }
