@@ -23,7 +23,7 @@ use Rattle.rules.proofs.Accepts.{way-from, way-to, unique-from, keeps-from, file
 use Rattle.rules.proofs.Filed.{some_is, some-none, HeaderIn, filed-view, header-filed, header_of, header_at, file-at}
 use Rattle.rules.proofs.Counting.{used-by-files}
 use Rattle.rules.proofs.Checks.{header-rule}
-use Rattle.names.specs.Names.{name_from, name_if, Mirrors}
+use Rattle.names.specs.Names.{Entries, name_from, name_if, Mirrors}
 use Rattle.tags.specs.Bare.{bare, bares, records}
 use Rattle.table.specs.Rows.{blocks_of as table_blocks}
 use Rattle.table.specs.Laws.{bare_blocks}
@@ -98,7 +98,7 @@ module _ (s : State) (z : Sizes) (rows : List Look) (t : TableOf s z rows) where
   })).0
 
   -- the names noted are those of the files, once records of one serial are equal
-  pub names-mirror : (names : List ℕ) → AllChecked s rows names → ((r : Record) → Among r rs → keeps_rules r ≡ true) → Unique rs → Mirrors names (files rs)
+  pub names-mirror : (names : Entries) → AllChecked s rows names → ((r : Record) → Among r rs → keeps_rules r ≡ true) → Unique rs → Mirrors names (files rs)
   names-mirror names h keeps u o low high = h.named o ∙ by-file (files rs o) refl (noted-cases (filed_by rows) o None (flat bs) low high)
     where
       filed-same : (r : Record) → filed_by rows r ≡ in_file rs r
@@ -156,14 +156,14 @@ module _ (s : State) (fit : sizes_fit s.n s.p ≡ true) where
   verdict-by e10 e11 e12 e13 e14 = rw (fit, e10, e11, e12, e13, e14) refl
 
 -- what the first checks found: the rows tell of the chip, all records are whole and keep the rules, and none clashes with another
-pub record Passed (s : State) (z : Sizes) (rows : List Look) (names : List ℕ) : Type 0 where
+pub record Passed (s : State) (z : Sizes) (rows : List Look) (names : Entries) : Type 0 where
   table : TableOf s z rows
   fit : sizes_fit z.blocks z.chunks ≡ true
   whole : AllWhole s
   checked : AllChecked s rows names
   clash : clash_place None ≡ first_clash [] (placed 0 (blocks_of s))
 
-pub broken-rule : {s : State} {z : Sizes} {rows : List Look} (t : TableOf s z rows) → sizes_fit z.blocks z.chunks ≡ true → (names : List ℕ) (e : Refusal) → FirstBroken s e → Examined s (Err e) rows names
+pub broken-rule : {s : State} {z : Sizes} {rows : List Look} (t : TableOf s z rows) → sizes_fit z.blocks z.chunks ≡ true → (names : Entries) (e : Refusal) → FirstBroken s e → Examined s (Err e) rows names
 broken-rule {s = s} t fit names e f =
     let k = f.broken in
     record {
@@ -173,18 +173,18 @@ broken-rule {s = s} t fit names e f =
       leaves = tt;
     }
 
-no-broken : {s : State} {rows : List Look} {names : List ℕ} → AllChecked s rows names → first_placed (λ q. not (keeps_rules q.what)) (placed 0 (blocks_of s)) ≡ None
+no-broken : {s : State} {rows : List Look} {names : Entries} → AllChecked s rows names → first_placed (λ q. not (keeps_rules q.what)) (placed 0 (blocks_of s)) ≡ None
 no-broken {s = s} h = first-placed-none s (λ r. not (keeps_rules r)) (λ k r l p. not_from_true _ (h.keep k r l p))
 
-pub serial-clash : {s : State} {z : Sizes} {rows : List Look} (t : TableOf s z rows) → sizes_fit z.blocks z.chunks ≡ true → {names : List ℕ} → AllChecked s rows names
+pub serial-clash : {s : State} {z : Sizes} {rows : List Look} (t : TableOf s z rows) → sizes_fit z.blocks z.chunks ≡ true → {names : Entries} → AllChecked s rows names
     → (q : Place) → clash_place (Some q) ≡ first_clash [] (placed 0 (blocks_of s)) → Examined s (Err (SerialClash q)) rows names
 serial-clash {s = s} t fit h q e = record { answers = sym (verdict-by s (fits-own t fit) (no-broken h) (sym e) refl refl refl); leaves = tt }
 
-pub passed : {s : State} {z : Sizes} {rows : List Look} {names : List ℕ} → TableOf s z rows → sizes_fit z.blocks z.chunks ≡ true → AllWhole s → AllChecked s rows names
+pub passed : {s : State} {z : Sizes} {rows : List Look} {names : Entries} → TableOf s z rows → sizes_fit z.blocks z.chunks ≡ true → AllWhole s → AllChecked s rows names
     → clash_place None ≡ first_clash [] (placed 0 (blocks_of s)) → Passed s z rows names
 passed t f w h c = record { table = t; fit = f; whole = w; checked = h; clash = c }
 
-module _ {s : State} {z : Sizes} {rows : List Look} {names : List ℕ} (p : Passed s z rows names) where
+module _ {s : State} {z : Sizes} {rows : List Look} {names : Entries} (p : Passed s z rows names) where
   keeps : (r : Record) → Among r (standing (blocks_of s)) → keeps_rules r ≡ true
   keeps = keeps-from (blocks_of s) (no-broken p.checked)
 

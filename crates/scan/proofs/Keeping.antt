@@ -10,6 +10,7 @@ use Rattle.rules.specs.Records.{kind, kind_by, is_header, first_byte, rules_by, 
 use Rattle.flash.specs.declared.chunks.Look.{Look}
 use Rattle.flash.specs.declared.chunks.Chunk.TheVariants.{Holds}
 use Rattle.flash.specs.Model.{State}
+use Rattle.names.specs.Names.{Entries}
 use Rattle.scan.specs.Checks.{first_if, FirstOf}
 use Rattle.scan.specs.Tables.{row_of}
 
@@ -25,7 +26,7 @@ pub keeps_same : (r : Record) (t : Tag) (f : ℕ) → r.tag ≡ t → f ≡ firs
 unfolding keeps_rules kind
 keeps_same r t f g e = rw (← g) (ap (λ (x : Bool). within 1 4294967295 r.tag.serial && x) (rules-same r f (kind_by r.tag.first) (λ h. e ∙ cond-true (is_header (kind_by r.tag.first)) (first_byte r.bytes) 0 h)))
 
-pub kept : {s : State} {rows : List Look} {k : ℕ} {t : Tag} {before : List ℕ} {v : ℕ} {after : List ℕ} (f : FirstOf s rows k t before v after) (b : Bool) → b ≡ keeps_rules (record { tag = t; bytes = v ∷ [] })
+pub kept : {s : State} {rows : List Look} {k : ℕ} {t : Tag} {before : Entries} {v : ℕ} {after : Entries} (f : FirstOf s rows k t before v after) (b : Bool) → b ≡ keeps_rules (record { tag = t; bytes = v ∷ [] })
     → (r : Record) → row_of s k ≡ Holds r → keeps_rules r ≡ b
 kept {t = t} {v = v} f b e r p =
     let q : r ≡ f.found = cc in ap keeps_rules q ∙ sym (e ∙ keeps_same f.found t v f.tag f.first)

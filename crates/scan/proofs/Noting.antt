@@ -9,13 +9,13 @@ use Rattle.flash.specs.Model.{State}
 use Rattle.rules.specs.Lists.{within}
 use Rattle.rules.specs.Records.{kind, kind_by, is_header, object, first_byte}
 use Rattle.tags.specs.Bare.{bare_tag}
-use Rattle.names.specs.Names.{name_at, name_from}
+use Rattle.names.specs.Names.{Entries, name_at, name_from}
 use Rattle.scan.specs.Checks.{filed_by, FirstOf}
 use Rattle.scan.specs.Tables.{HasData}
 use Rattle.scan.specs.Tables.{row_of}
 
 -- the name in a header's data noted, if the header with this tag is its file's
-abbrev pub NotedIf : List Look → Tag → List ℕ → List ℕ → List ℕ → Type 0
+abbrev pub NotedIf : List Look → Tag → List ℕ → Entries → Entries → Type 0
 NotedIf rows t bytes before after = (o : ℕ) → name_at after o ≡ cond (filed_by rows (bare_tag t) && (within 257 511 (object (bare_tag t)) && eqb o (object (bare_tag t)))) (name_from bytes) (name_at before o)
 
 first-is : (xs : List ℕ) → get_or xs 0 0 ≡ first_byte xs
@@ -31,8 +31,8 @@ object-by : (r : Record) (t : Tag) → r.tag ≡ t → object r ≡ object (bare
 unfolding object kind
 object-by r t e = ap (λ (z : Tag). object (bare_tag z)) e
 
-module _ (s : State) (rows : List Look) (k : ℕ) (t : Tag) (before : List ℕ) (b : Bool) (kind-is : b ≡ is_header (kind_by t.first)) where
-  pub header-first : (bytes after : List ℕ) → HasData s k t bytes → b ≡ true → NotedIf rows t bytes before after → FirstOf s rows k t before (get_or bytes 0 0) after
+module _ (s : State) (rows : List Look) (k : ℕ) (t : Tag) (before : Entries) (b : Bool) (kind-is : b ≡ is_header (kind_by t.first)) where
+  pub header-first : (bytes : List ℕ) (after : Entries) → HasData s k t bytes → b ≡ true → NotedIf rows t bytes before after → FirstOf s rows k t before (get_or bytes 0 0) after
   header-first bytes after d h n =
       let hd : is_header (kind d.found) ≡ true = header-by d.found t d.tag ∙ sym kind-is ∙ h in
       let filed : filed_by rows d.found ≡ filed_by rows (bare_tag t) = ap (λ (z : Tag). filed_by rows (bare_tag z)) d.tag in

@@ -10,7 +10,7 @@ use Rattle.flash.specs.declared.chunks.Record.{Record}
 use Rattle.flash.specs.declared.chunks.Sizes.{Sizes}
 use Rattle.flash.specs.declared.chunks.Tag.{Tag}
 use Rattle.flash.specs.Model.{State, blocks_of}
-use Rattle.names.specs.Names.{name_at}
+use Rattle.names.specs.Names.{Entries, name_at}
 use Rattle.scan.specs.Flat.{flat}
 use Rattle.scan.specs.Tables.{TableOf, row_of}
 use Rattle.scan.specs.Checks.{filed_by, note_of, noted, RowChecked, AllChecked, KeepTo}
@@ -23,25 +23,25 @@ no_note filed o Blank was n = refl
 no_note filed o Damaged was n = refl
 no_note filed o (Holds r) was n = absurd (n r refl)
 
-pub row-passed : {s : State} {z : Sizes} {rows : List Look} (t : TableOf s z rows) (i : ℕ) (names : List ℕ) → ((g : Tag) → get_or rows i BlankL ≡ RecordL g → ⊥) → RowChecked s rows i names (Ok tt) names
+pub row-passed : {s : State} {z : Sizes} {rows : List Look} (t : TableOf s z rows) (i : ℕ) (names : Entries) → ((g : Tag) → get_or rows i BlankL ≡ RecordL g → ⊥) → RowChecked s rows i names (Ok tt) names
 row-passed {s = s} {rows = rows} t i names n =
     let m = untold t i n in
     ((λ r e. absurd (m r e)), λ o. no_note (filed_by rows) o (row_of s i) (name_at names o) m)
 
 -- the rows below i checked: their records keep the rules, and what the names noted give with the rows from i on is what all rows give
-abbrev pub CheckedTo : State → List Look → ℕ → List ℕ → Type 0
+abbrev pub CheckedTo : State → List Look → ℕ → Entries → Type 0
 CheckedTo s rows i names =
     KeepTo s i × ((o : ℕ) → noted (filed_by rows) o (name_at names o) (drop i (flat (blocks_of s))) ≡ noted (filed_by rows) o None (flat (blocks_of s)))
 
 module _ {s : State} {z : Sizes} {rows : List Look} (t : TableOf s z rows) (i : ℕ) where
-  pub checked-more : (before after : List ℕ) → i < length rows → CheckedTo s rows i before → RowChecked s rows i before (Ok tt) after → CheckedTo s rows (i + 1) after
+  pub checked-more : (before after : Entries) → i < length rows → CheckedTo s rows i before → RowChecked s rows i before (Ok tt) after → CheckedTo s rows (i + 1) after
   checked-more before after h c r =
       let l : i < length (flat (blocks_of s)) = omega (arith, rows_long s z rows t, flat-long s) in (
         λ k a b e. ⊎_elim (λ (x : k ≡ i). r.0 a (ap (row_of s) (sym x) ∙ e)) (λ (x : k ≢ i). c.0 k a (omega arith) e) (cases_eq k i),
         λ o. rw (r.1 o) (sym (at_drop_more (noted (filed_by rows) o (name_at before o)) (flat (blocks_of s)) i Blank l) ∙ c.1 o),
       )
 
-  pub checked-all : (names : List ℕ) → length rows ≤ i → CheckedTo s rows i names → AllChecked s rows names
+  pub checked-all : (names : Entries) → length rows ≤ i → CheckedTo s rows i names → AllChecked s rows names
   checked-all names h c =
       let l : length (flat (blocks_of s)) ≤ i = omega (arith, rows_long s z rows t, flat-long s) in
       record {

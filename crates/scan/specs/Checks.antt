@@ -12,7 +12,7 @@ use Rattle.rules.specs.Lists.{within}
 use Rattle.rules.specs.Records.{kind, is_header, object, first_byte, keeps_rules}
 use Rattle.rules.specs.Reading.{in_file}
 use Rattle.tags.specs.Bare.{bare, records}
-use Rattle.names.specs.Names.{name_at, name_from}
+use Rattle.names.specs.Names.{Entries, name_at, name_from}
 use Rattle.scan.specs.declared.refusals.Refusal.{Refusal}
 use Rattle.scan.specs.declared.refusals.Refusal.TheVariants.{BadRecord}
 use Rattle.scan.specs.Flat.{flat}
@@ -38,14 +38,14 @@ abbrev pub first_if : Record → ℕ
 first_if r = cond (is_header (kind r)) (first_byte r.bytes) 0
 
 -- that byte told of the record with these four numbers that is in row k, and its name noted
-pub record FirstOf (s : State) (rows : List Look) (k : ℕ) (t : Tag) (before : List ℕ) (v : ℕ) (after : List ℕ) : Type 0 where
+pub record FirstOf (s : State) (rows : List Look) (k : ℕ) (t : Tag) (before : Entries) (v : ℕ) (after : Entries) : Type 0 where
   pub found : Record
   pub here : row_of s k ≡ Holds found
   pub tag : found.tag ≡ t
   pub first : v ≡ first_if found
   pub named : (o : ℕ) → name_at after o ≡ note_of (filed_by rows) o (row_of s k) (name_at before o)
 
-abbrev pub FirstNoted : State → List Look → ℕ → Tag → List ℕ → Result ℕ Fault → List ℕ → Type 0
+abbrev pub FirstNoted : State → List Look → ℕ → Tag → Entries → Result ℕ Fault → Entries → Type 0
 FirstNoted s rows k t before (Ok v) after = FirstOf s rows k t before v after
 FirstNoted s rows k t before (Err f) after = ⊥
 
@@ -59,7 +59,7 @@ pub record BrokenRule (s : State) (i : ℕ) (e : Refusal) : Type 0 where
   pub here : row_of s i ≡ Holds found
   pub breaks : keeps_rules found ≡ false
 
-abbrev pub RowChecked : State → List Look → ℕ → List ℕ → Result (Unit {0}) Refusal → List ℕ → Type 0
+abbrev pub RowChecked : State → List Look → ℕ → Entries → Result (Unit {0}) Refusal → Entries → Type 0
 RowChecked s rows i before (Ok u) after = ((r : Record) → row_of s i ≡ Holds r → keeps_rules r ≡ true) × ((o : ℕ) → name_at after o ≡ note_of (filed_by rows) o (row_of s i) (name_at before o))
 RowChecked s rows i before (Err e) after = BrokenRule s i e
 
@@ -68,7 +68,7 @@ abbrev pub KeepTo : State → ℕ → Type 0
 KeepTo s i = (k : ℕ) (r : Record) → k < i → row_of s k ≡ Holds r → keeps_rules r ≡ true
 
 -- every row checked: all records keep the rules, and the names are those noted on the way; or 10 at the first that breaks them
-pub record AllChecked (s : State) (rows : List Look) (names : List ℕ) : Type 0 where
+pub record AllChecked (s : State) (rows : List Look) (names : Entries) : Type 0 where
   pub keep : KeepTo s (s.n * s.p)
   pub named : (o : ℕ) → name_at names o ≡ noted (filed_by rows) o None (flat (blocks_of s))
 
@@ -77,6 +77,6 @@ pub record FirstBroken (s : State) (e : Refusal) : Type 0 where
   pub before : KeepTo s row
   pub broken : BrokenRule s row e
 
-abbrev pub RowsChecked : State → List Look → Result (Unit {0}) Refusal → List ℕ → Type 0
+abbrev pub RowsChecked : State → List Look → Result (Unit {0}) Refusal → Entries → Type 0
 RowsChecked s rows (Ok u) names = AllChecked s rows names
 RowsChecked s rows (Err e) names = FirstBroken s e

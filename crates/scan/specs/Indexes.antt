@@ -6,7 +6,7 @@ use Rattle.flash.specs.Model.{State, View, view_of}
 use Rattle.rules.specs.declared.standings.Standing.{Standing}
 use Rattle.rules.specs.Mounting.{sizes_fit, mounted_block, verdict}
 use Rattle.rules.specs.Reading.{files}
-use Rattle.names.specs.Names.{bytes_of, Mirrors}
+use Rattle.names.specs.Names.{Entries, entries_of, Mirrors}
 use Rattle.scan.specs.declared.indexes.Index.{Index}
 use Rattle.scan.specs.declared.refusals.Refusal.{Refusal}
 use Rattle.scan.specs.Flat.{looks_of}
@@ -21,8 +21,8 @@ abbrev pub stands_in : Index → List Standing
 stands_in x = take x.sizes.blocks (vec_items x.standings)
 
 -- the names of the files
-abbrev pub names_in : Index → List ℕ
-names_in x = bytes_of x.names
+abbrev pub names_in : Index → Entries
+names_in x = entries_of x.names
 
 -- the index knows the chip: it is on and has sizes that are taken; the index tells of its chunks, of its blocks as mount leaves them, and of the names of
 -- its files; records are whole, and mount accepts the contents

@@ -11,7 +11,7 @@ use Rattle.flash.specs.Faults.{Told}
 use Rattle.rules.specs.Reading.{files}
 use Rattle.rules.specs.Places.{load}
 use Rattle.rules.specs.Mounting.{Fault, verdict}
-use Rattle.names.specs.Names.{Mirrors}
+use Rattle.names.specs.Names.{Entries, Mirrors}
 use Rattle.scan.specs.declared.refusals.Refusal.{Refusal}
 use Rattle.scan.specs.Flat.{looks_of}
 use Rattle.scan.specs.Refusals.{told}
@@ -35,16 +35,16 @@ whole_all [] = true
 whole_all (r ∷ rs) = length r.bytes == 2048 && whole_all rs
 
 -- the contents examined: the answer is mount's verdict on them; accepted, the rows tell of every chunk, all records are whole, and the names are those of the files
-pub record Accepted (s : State) (rows : List Look) (names : List ℕ) : Type 0 where
+pub record Accepted (s : State) (rows : List Look) (names : Entries) : Type 0 where
   pub mirror : rows ≡ looks_of (blocks_of s)
   pub whole : whole_all (standing (blocks_of s)) ≡ true
   pub named : Mirrors names (files (standing (blocks_of s)))
 
-abbrev pub AcceptedIf : State → Result (Unit {0}) Refusal → List Look → List ℕ → Type 0
+abbrev pub AcceptedIf : State → Result (Unit {0}) Refusal → List Look → Entries → Type 0
 AcceptedIf s (Ok u) rows names = Accepted s rows names
 AcceptedIf s (Err e) rows names = Unit {0}
 
-pub record Examined (s : State) (r : Result (Unit {0}) Refusal) (rows : List Look) (names : List ℕ) : Type 0 where
+pub record Examined (s : State) (r : Result (Unit {0}) Refusal) (rows : List Look) (names : Entries) : Type 0 where
   pub answers : verdict_of r ≡ verdict s.n s.p (blocks_of s)
   pub leaves : AcceptedIf s r rows names
 

@@ -1,4 +1,4 @@
-ghost use Rattle.names.specs.Names.{bytes_of};
+ghost use Rattle.names.specs.Names.{entries_of};
 ghost use Rattle.scan.specs.Mounts.{Examined, Idle};
 
 use crate::refusals::Refusal;
@@ -19,7 +19,7 @@ impl<C: Chip> Scan<'_, C> {
 
     // Checks what the chip holds, and notes the names of the files.
     pub(crate) fn examine(&self, names: &mut Names) -> Result<(), Refusal>
-        ensures { Examined (C.Chip.model self.now.chip.now) result self.now.rows.now (bytes_of names.new) }
+        ensures { Examined (C.Chip.model self.now.chip.now) result self.now.rows.now (entries_of names.new) }
     {
         self.check_rows(names)?;
         if let Some(at) = self.first_clash()? {

@@ -1,6 +1,6 @@
 use Rattle.std.proofs.Common.{refl, ap, ◌∙◌}
 use Rattle.rules.specs.Records.{is_header}
-use Rattle.names.specs.Names.{bytes_of}
+use Rattle.names.specs.Names.{entries_of}
 use Rattle.scan.proofs.Telling.{told}
 use Rattle.scan.proofs.Noting.{NotedIf, header-first, other-first}
 use Rattle.scan.proofs.tables.Entry.first_byte.Goals as goal
@@ -10,16 +10,16 @@ pub returns-then-not-is_header : goal.returns-then-not-is_header
 returns-then-not-is_header g c =
     let e = c.args.self.now in
     let r = told e.scan.now.table e.row e.tag e.told in
-    other-first _ e.scan.now.rows.now e.row e.tag (bytes_of c.args.names.now) c.is_header.result (c.is_header.ensures ∙ ap is_header c.kind_of.ensures) r.0 r.1 r.2 c.if-not-is_header.true
+    other-first _ e.scan.now.rows.now e.row e.tag (entries_of c.args.names.now) c.is_header.result (c.is_header.ensures ∙ ap is_header c.kind_of.ensures) r.0 r.1 r.2 c.if-not-is_header.true
 
 pub returns : goal.returns
 returns g c =
     let e = c.args.self.now in
     let rows = e.scan.now.rows.now in
-    let before = bytes_of c.args.names.now in
-    let n : NotedIf rows e.tag c.in_ok-data.data before (bytes_of c.if-in_file.names) =
+    let before = entries_of c.args.names.now in
+    let n : NotedIf rows e.tag c.in_ok-data.data before (entries_of c.if-in_file.names) =
     elim c.if-in_file.branch [
       | then-in_file w ↦ (λ o. rw (w.names-is, ← w.if-in_file.ensures, ← w.object_of.ensures) (w.note.ensures o))
       | else-in_file w ↦ (λ o. rw (w.names-is, ← w.if-in_file.ensures) refl)
     ] in
-    header-first _ rows e.row e.tag before c.is_header.result (c.is_header.ensures ∙ ap is_header c.kind_of.ensures) c.in_ok-data.data (bytes_of c.if-in_file.names) c.in_ok-data.ensures c.if-not-is_header.false n
+    header-first _ rows e.row e.tag before c.is_header.result (c.is_header.ensures ∙ ap is_header c.kind_of.ensures) c.in_ok-data.data (entries_of c.if-in_file.names) c.in_ok-data.ensures c.if-not-is_header.false n

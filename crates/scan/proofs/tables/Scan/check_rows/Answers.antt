@@ -1,4 +1,4 @@
-use Rattle.names.specs.Names.{bytes_of}
+use Rattle.names.specs.Names.{entries_of}
 use Rattle.scan.proofs.RowChecking.{row-passed, checked-more, checked-all}
 use Rattle.scan.proofs.tables.Scan.check_rows.Goals as goal
 
@@ -6,8 +6,8 @@ pub loop-row-preserved-in_default : goal.loop-row-preserved-in_default
 loop-row-preserved-in_default g c =
     let t = c.args.self.now.table in
     let i = c.loop-row.row in
-    let names = bytes_of c.loop-row.names in
+    let names = entries_of c.loop-row.names in
     checked-more t i names names c.loop-row-test.true c.loop-row.invariant (row-passed t i names c.in_default.not-Record)
 
 pub returns : goal.returns
-returns g c = checked-all c.args.self.now.table c.loop-row.row (bytes_of c.loop-row.names) c.loop-row-test.false c.loop-row.invariant
+returns g c = checked-all c.args.self.now.table c.loop-row.row (entries_of c.loop-row.names) c.loop-row-test.false c.loop-row.invariant

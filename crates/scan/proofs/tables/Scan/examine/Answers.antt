@@ -1,5 +1,5 @@
 use Rattle.std.proofs.lemmas.Result.{err_from_is_err_and}
-use Rattle.names.specs.Names.{bytes_of}
+use Rattle.names.specs.Names.{entries_of}
 use Rattle.scan.proofs.Examining.{passed, broken-rule, serial-clash, mirror, same-names, too-large, no-way, accepted}
 use Rattle.scan.proofs.tables.Scan.examine.Goals as goal
 
@@ -7,7 +7,7 @@ pub returns-in_err-check_rows : goal.returns-in_err-check_rows
 returns-in_err-check_rows g c =
     let x = c.args.self.now in
     let p = err_from_is_err_and c.from_residual.result c.from_residual.ensures.1 in
-    rw (p.1, p.2) (broken-rule x.table x.fit (bytes_of c.check_rows.new.names) c.in_err-check_rows.field-0.0 c.in_err-check_rows.ensures)
+    rw (p.1, p.2) (broken-rule x.table x.fit (entries_of c.check_rows.new.names) c.in_err-check_rows.field-0.0 c.in_err-check_rows.ensures)
 
 pub returns-in-Some : goal.returns-in-Some
 returns-in-Some g c =
