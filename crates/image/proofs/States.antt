@@ -1,20 +1,16 @@
 -- A well-made image as a chip, and the calls that read it. Assumes nothing.
-use Rattle.std.proofs.Common.{◌≡◌, ℕ, ◌+◌, ◌*◌, ◌<◌, ◌≤◌, Bool, true, false, cond, eqb, ◌≢◌, ◌⊎◌, List, length, get_or, take, sym, ap, ◌∙◌, subst, ⊎_elim, mul-le-mul_right, add-mul, arith}
-use lib.Arith.{digits_lt}
-use Rattle.std.proofs.lemmas.List.{take_all, length-drop}
+use Rattle.std.proofs.Common.{◌≡◌, ℕ, ◌+◌, ◌*◌, ◌<◌, ◌≤◌, Bool, true, false, cond, eqb, List, length, get_or, take, drop, sym, ap, ◌∙◌, subst, ⊎_elim, arith}
+use Rattle.std.proofs.Math.Nat.{le_refl, mul_comm}
+use Rattle.std.proofs.lemmas.Nat.{row_fits, mul-add-lt}
 use Rattle.std.proofs.lemmas.Bool.{cond-true, cases_Bool}
 use Rattle.std.proofs.lemmas.Bool.Decides.{nat_tests}
-use Rattle.flash.specs.declared.chunks.Chunk.TheVariants.{Blank, Damaged}
-use Rattle.flash.specs.declared.chunks.Look.{Look}
+use Rattle.std.specs.declared.ops.Range.{Range}
 use Rattle.flash.specs.declared.chunks.Place.{Place}
-use Rattle.flash.specs.declared.faults.Fault.TheVariants.{NoRecord}
-use Rattle.flash.specs.Chunks.{look_of, WholeChunk}
 use Rattle.flash.specs.Model.{State}
-use Rattle.flash.specs.Reads.{LookDone, NotFetched, FetchDone}
-use Rattle.image.specs.Format.{misfit, well_made, powered, block_count, chunk_count, start_of, bytes_at, data_of, record_of, chunk_of, chip_of, no_chip, image_of}
-use Rattle.image.specs.Places.{Found}
-use Rattle.image.proofs.Coded.{record-told, no_record}
-use Rattle.image.proofs.Spots.{length-bytes}
+use Rattle.image.specs.Format.{misfit, well_made, powered, block_count, chunk_count, start_of, chunk_of, chip_of, no_chip, image_of}
+use Rattle.image.specs.declared.heads.Head.{Head}
+use Rattle.image.specs.Heads.{HeadOf}
+use Rattle.image.specs.Places.{Found, IsChunk}
 
 pub well-length : (xs : List ℕ) → well_made xs ≡ true → length xs ≡ 8 + block_count xs * chunk_count xs * 2065
 well-length xs h = grind (arith, nat_tests)
@@ -38,15 +34,11 @@ still-well xs ys w l e =
 
 -- a chunk lies within the bytes
 pub room : (xs : List ℕ) (b c : ℕ) → well_made xs ≡ true → b < block_count xs → c < chunk_count xs → start_of (chunk_count xs) b c + 2065 ≤ length xs
-room xs b c w h k =
-    let l = well-length xs w in let d : b * chunk_count xs + c < block_count xs * chunk_count xs = digits_lt h k in omega arith
+room xs b c w h k = omega (arith, well-length xs w, mul-add-lt b (chunk_count xs) c (block_count xs) h k, mul_comm (chunk_count xs) (block_count xs))
 
 -- so do all the chunks of a block
 pub block_room : (xs : List ℕ) (b : ℕ) → well_made xs ≡ true → b < block_count xs → start_of (chunk_count xs) b (chunk_count xs) ≤ length xs
-block_room xs b w h =
-    let l = well-length xs w in
-    let m : (b + 1) * chunk_count xs ≤ block_count xs * chunk_count xs = mul-le-mul_right (chunk_count xs) (let k : b + 1 ≤ block_count xs = omega arith in k) in
-    omega (arith, add-mul b 1 (chunk_count xs))
+block_room xs b w h = omega (arith, well-length xs w, row_fits b (chunk_count xs) (block_count xs) (chunk_count xs) h (le_refl (chunk_count xs)))
 
 -- a chip with blocks is a well-made image
 pub record Counted (xs : List ℕ) (b p : ℕ) : Type 0 where
@@ -63,37 +55,27 @@ counted xs b n p en ep h =
 pub on-is : (xs : List ℕ) → well_made xs ≡ true → true ≡ (image_of xs).on → powered xs ≡ true
 on-is xs w o = sym (o ∙ ap (λ (t : State). t.on) (image-is xs w))
 
--- a chunk of an image that is on
-pub found : (xs : List ℕ) (q : Place) (n p i : ℕ) → true ≡ (image_of xs).on → n ≡ (image_of xs).n → p ≡ (image_of xs).p → q.block < n → q.chunk < p → i ≡ start_of p q.block q.chunk → Found xs q i
-found xs q n p i o en ep h k e =
-    let t = counted xs q.block n p en ep h in
-    let ec = t.chunks in
-    let hc : q.chunk < chunk_count xs = omega arith in
-    let here : i ≡ start_of (chunk_count xs) q.block q.chunk = e ∙ ap (λ (x : ℕ). start_of x q.block q.chunk) ec in
-    let r = room xs q.block q.chunk t.well t.within hc in
-    record { well = t.well; ready = on-is xs t.well o; within = record { block = t.within; chunk = hc }; here = here; room = omega arith }
-
 -- what holds of the chip of a well-made image holds of the image
 pub at-image : (P : State → Type 0) (xs : List ℕ) → well_made xs ≡ true → P (chip_of xs) → P (image_of xs)
 at-image P xs w h = subst P (sym (image-is xs w)) h
 
-pub looked : (xs ys : List ℕ) (q : Place) (i : ℕ) (v : Look) → Found xs q i → ys ≡ bytes_at xs i → v ≡ look_of (chunk_of ys) → WholeChunk (chunk_of ys) → LookDone (image_of xs) q v
-looked xs ys q i v f cut e w =
-    let at : ys ≡ bytes_at xs (start_of (chunk_count xs) q.block q.chunk) = cut ∙ ap (bytes_at xs) f.here in
-    let W : List ℕ → Type 0 = λ zs. WholeChunk (chunk_of zs) in
-    at-image (λ s. LookDone s q v) xs f.well
-    (record { ready = f.ready; within = f.within; tells = e ∙ ap (λ (zs : List ℕ). look_of (chunk_of zs)) at; whole = subst W at w })
+-- a chunk of an image that is on, and all later ones of its block
+pub found : (xs : List ℕ) (q : Place) (h : Head) (r : Range ℕ) → HeadOf (image_of xs) h → h.on ≡ true → q.block < h.blocks → q.chunk < h.chunks
+    → r.start ≡ start_of h.chunks q.block q.chunk → r.end ≡ start_of h.chunks q.block h.chunks → Found xs q r
+found xs q h r i o hb hc e f =
+    let t = counted xs q.block h.blocks h.chunks i.blocks i.chunks hb in
+    let ec = t.chunks in
+    record {
+      well = t.well;
+      ready = on-is xs t.well (sym o ∙ i.power);
+      within = record { block = t.within; chunk = omega (arith, hc) };
+      here = e ∙ ap (λ (x : ℕ). start_of x q.block q.chunk) ec;
+      end_is = f ∙ ap (λ (x : ℕ). start_of x q.block x) ec;
+      room = omega (arith, f ∙ ap (λ (x : ℕ). start_of x q.block x) ec, block_room xs q.block t.well t.within);
+    }
 
--- fetch finds no record
-pub not-fetched : (xs ys : List ℕ) (q : Place) (i : ℕ) → Found xs q i → ys ≡ bytes_at xs i → get_or ys 0 0 ≢ 1 → NotFetched (image_of xs) q NoRecord
-not-fetched xs ys q i f cut ne =
-    let at : ys ≡ bytes_at xs (start_of (chunk_count xs) q.block q.chunk) = cut ∙ ap (bytes_at xs) f.here in
-    let P : List ℕ → Type 0 = λ zs. (chunk_of zs ≡ Blank) ⊎ (chunk_of zs ≡ Damaged) in
-    at-image (λ s. NotFetched s q NoRecord) xs f.well (f.ready, f.within, subst P at (no_record ys ne))
-
-pub fetched : (xs ys zs : List ℕ) (q : Place) (i : ℕ) → Found xs q i → ys ≡ bytes_at xs i → get_or ys 0 0 ≡ 1 → zs ≡ take 2048 (data_of ys) → FetchDone (image_of xs) q zs
-fetched xs ys zs q i f cut st e =
-    let at : ys ≡ bytes_at xs (start_of (chunk_count xs) q.block q.chunk) = cut ∙ ap (bytes_at xs) f.here in
-    let l : length ys ≡ 2065 = ap length cut ∙ length-bytes xs i f.room in
-    let all : take 2048 (data_of ys) ≡ data_of ys = take_all 2048 (data_of ys) (omega (arith, length-drop 17 ys)) in
-    at-image (λ s. FetchDone s q zs) xs f.well (record { ready = f.ready; within = f.within; found = record_of ys; holds = ap chunk_of (sym at) ∙ record-told ys st; copied = e ∙ all })
+-- the bytes of a chunk
+pub is_chunk : (xs ys zs : List ℕ) (q : Place) (r : Range ℕ) → Found xs q r → zs ≡ xs → ys ≡ take 2065 (drop r.start zs) → IsChunk (image_of xs) q ys
+is_chunk xs ys zs q r f ez e =
+    at-image (λ s. IsChunk s q ys) xs f.well
+    (record { ready = f.ready; within = f.within; is = ap chunk_of (e ∙ (λ i. take 2065 (drop (f.here i) (ez i)))) })

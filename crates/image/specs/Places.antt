@@ -1,17 +1,26 @@
 -- Where a chunk was found. Assumes nothing.
-use Rattle.std.specs.Prelude.{◌≡◌, ℕ, ◌+◌, ◌<◌, ◌≤◌, true, List, length, slice_index}
+use Rattle.std.specs.Prelude.{◌≡◌, ℕ, ◌<◌, ◌≤◌, true, List, [], length, slice_index, slice_index_or}
+use Rattle.std.specs.declared.ops.Range.{Range}
 use Rattle.flash.specs.declared.chunks.Place.{Place}
+use Rattle.flash.specs.Model.{State}
 use Rattle.flash.specs.Reads.{Within}
-use Rattle.image.specs.Format.{well_made, powered, chunk_count, start_of, chip_of}
+use Rattle.image.specs.Format.{well_made, powered, chunk_count, start_of, chunk_of, chip_of}
 
--- the chip is on, and the chunk's bytes begin at `start`
-pub record Found (xs : List ℕ) (q : Place) (start : ℕ) : Type 0 where
+-- the chip is on, and the bytes of the chunk and of all later ones of its block lie there
+pub record Found (xs : List ℕ) (q : Place) (r : Range ℕ) : Type 0 where
   pub well : well_made xs ≡ true
   pub ready : powered xs ≡ true
   pub within : Within (chip_of xs) q
-  pub here : start ≡ start_of (chunk_count xs) q.block q.chunk
-  pub room : start + 2065 ≤ length xs
+  pub here : r.start ≡ start_of (chunk_count xs) q.block q.chunk
+  pub end_is : r.end ≡ start_of (chunk_count xs) q.block (chunk_count xs)
+  pub room : r.end ≤ length xs
 
--- the state bytes from chunk c on say that all these chunks are blank
-abbrev pub BlankStates : List ℕ → ℕ → ℕ → ℕ → Type 0
-BlankStates xs p b c = (k : ℕ) → c ≤ k → k < p → slice_index xs (start_of p b k) ≡ 255
+-- the state bytes of these chunks say that all of them are blank
+abbrev pub AllBlank : List (List ℕ) → Type 0
+AllBlank xs = (k : ℕ) → k < length xs → slice_index (slice_index_or xs k []) 0 ≡ 255
+
+-- the chip is on, and these are the bytes of a chunk of it
+pub record IsChunk (s : State) (q : Place) (ys : List ℕ) : Type 0 where
+  pub ready : s.on ≡ true
+  pub within : Within s q
+  pub is : chunk_of ys ≡ s.cells q.block q.chunk

@@ -2,10 +2,11 @@ ghost use Rattle.std.specs.Prelude.{◌≡◌, IfOk};
 ghost use Rattle.image.specs.Blanks.{blank_chunk, blank_image, BlankChip};
 ghost use Rattle.image.specs.Format.{misfit, image_of};
 
-use crate::codes::{BLANK, CHUNK, HEAD};
+use crate::codes::{BLANK, CHUNK};
+use crate::heads::HEAD;
 use std::alloc::{AllocError, Global};
 
-fn blank_chunk() -> [u8; 2065]
+fn blank_chunk() -> [u8; CHUNK]
     ensures { result ≡ blank_chunk }
 {
     let mut chunk = [0u8; CHUNK];

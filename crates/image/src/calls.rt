@@ -1,29 +1,45 @@
-ghost use Rattle.std.specs.Prelude.{◌≡◌, MatchResult};
+ghost use Rattle.std.specs.Prelude.{◌≡◌, ◌<◌, MatchResult, slice_set, vec_len};
 ghost use Rattle.flash.specs.Model.{started};
 ghost use Rattle.flash.specs.Reads.{NotLooked};
 ghost use Rattle.flash.specs.Writes.{Programmed, Erased};
 ghost use Rattle.image.specs.Leaves.{bytes_of, state_of, ProgramLeaves, EraseLeaves, RestartLeaves};
-ghost use Rattle.image.specs.Places.{Found};
+ghost use Rattle.image.specs.Places.{Found, IsChunk};
 
-use crate::codes::{
-    CHUNK, ON, RECORD, blank_from, clear, copy_data, look_at, start_of, write_record,
-};
+use crate::codes::{BLANK, CHUNK, RECORD, all_blank, code_of, copy_data, look_at};
+use crate::heads::{Head, ON};
 use crate::images::ImageChip;
 use flash::{Chip, Fault, Look, Place, Purpose, Record, Sizes};
+use std::ops::Range;
 
 impl ImageChip {
-    // Where a chunk begins, if the chip is on and has it.
-    fn find(&self, at: Place) -> Result<usize, Fault>
-        ensures { MatchResult result (λ i. Found (bytes_of self.now) at i) (λ f. NotLooked (state_of self.now) at f) }
+    // Where the bytes of a chunk and of all later ones of its block lie, if the chip is on and has it.
+    fn find(&self, at: Place) -> Result<Range<usize>, Fault>
+        ensures { MatchResult result (λ r. Found (bytes_of self.now) at r) (λ f. NotLooked (state_of self.now) at f) }
     {
-        if !self.is_on() {
+        let head = self.head();
+        if !head.on {
             return Err(Fault::Off);
         }
-        let (blocks, chunks) = self.counts();
-        if at.block >= blocks as u32 || at.chunk >= chunks as u32 {
+        if at.block >= u32::from(head.blocks) || at.chunk >= u32::from(head.chunks) {
             return Err(Fault::NoSuchPlace);
         }
-        Ok(start_of(chunks, at.block as u8, at.chunk as u8))
+        Ok(head.rest(at))
+    }
+
+    // The bytes of a chunk, if the chip is on and has it.
+    fn chunk(&self, at: Place) -> Result<&[u8; CHUNK], Fault>
+        ensures { MatchResult result (λ ys. IsChunk (state_of self.now) at ys.now) (λ f. NotLooked (state_of self.now) at f) }
+    {
+        let found = self.find(at)?;
+        Ok(self.bytes[found.start..].first_chunk().unwrap())
+    }
+
+    // Marks the chunk that begins there as blank.
+    fn mark_blank(&mut self, start: usize)
+        requires { start < vec_len self.old.bytes }
+        ensures { bytes_of self.new ≡ slice_set (bytes_of self.old) start 255 }
+    {
+        self.bytes[start] = BLANK;
     }
 }
 
@@ -31,21 +47,19 @@ impl Chip for ImageChip {
     ghost model = { state_of };
 
     fn sizes(&self) -> Sizes {
-        let (blocks, chunks) = self.counts();
+        let head = self.head();
         Sizes {
-            blocks: u32::from(blocks),
-            chunks: u32::from(chunks),
+            blocks: u32::from(head.blocks),
+            chunks: u32::from(head.chunks),
         }
     }
 
     fn look(&self, at: Place) -> Result<Look, Fault> {
-        let start = self.find(at)?;
-        Ok(look_at(&self.bytes[start..start + CHUNK]))
+        Ok(look_at(self.chunk(at)?))
     }
 
     fn fetch(&self, at: Place, buffer: &mut [u8; 2048]) -> Result<(), Fault> {
-        let start = self.find(at)?;
-        let chunk = &self.bytes[start..start + CHUNK];
+        let chunk = self.chunk(at)?;
         if chunk[0] != RECORD {
             return Err(Fault::NoRecord);
         }
@@ -57,16 +71,15 @@ impl Chip for ImageChip {
         ensures rules { Programmed (state_of self.old) purpose at «record».now result (state_of self.new) }
         ensures bytes { ProgramLeaves self.old at «record».now result self.new }
     {
-        let start = self.find(at)?;
-        let (_, chunks) = self.counts();
-        if !blank_from(&self.bytes, chunks, at.block as u8, at.chunk as u8) {
+        let found = self.find(at)?;
+        let (rest, _) = self.bytes[found.start..found.end].as_chunks();
+        if !all_blank(rest) {
             return Err(Fault::NotBlank);
         }
-        write_record(
-            &mut self.bytes[start..start + CHUNK],
+        self.bytes[found.start..found.start + CHUNK].copy_from_slice(&code_of(
             record.tag,
             &record.bytes,
-        );
+        ));
         Ok(())
     }
 
@@ -74,14 +87,17 @@ impl Chip for ImageChip {
         ensures rules { Erased (state_of self.old) block result (state_of self.new) }
         ensures bytes { EraseLeaves self.old block result self.new }
     {
-        if !self.is_on() {
+        let head = self.head();
+        if !head.on {
             return Err(Fault::Off);
         }
-        let (blocks, chunks) = self.counts();
-        if block >= blocks as u32 {
+        if block >= u32::from(head.blocks) {
             return Err(Fault::NoSuchPlace);
         }
-        clear(&mut self.bytes, chunks, block as u8);
+        // By number, as a proof knows nothing of what chunks_exact_mut leaves behind.
+        for chunk in 0..u32::from(head.chunks) {
+            self.mark_blank(head.start_of(block, chunk));
+        }
         Ok(())
     }
 
@@ -89,9 +105,8 @@ impl Chip for ImageChip {
         ensures rules { state_of self.new ≡ started (state_of self.old) }
         ensures bytes { RestartLeaves self.old self.new }
     {
-        if !self.well {
-            return;
+        if Head::read(&self.bytes).is_ok() {
+            self.bytes[7] = ON;
         }
-        self.bytes[7] = ON;
     }
 }

@@ -1,11 +1,6 @@
-ghost use Rattle.std.specs.Prelude.{◌≡◌};
-ghost use Rattle.image.specs.Format.{well_made};
-
-// A flash chip that lies in the bytes of an image file.
+// A flash chip that lies in the bytes of an image file. Any other bytes are a chip with no blocks that is always
+// on and leaves them as they are.
 #[derive(Drop)]
 pub struct ImageChip {
     pub(crate) bytes: Vec<u8>,
-    // whether the bytes are an image; if not, the chip has no blocks and leaves them as they are
-    pub(crate) well: bool,
-    ghost told: { well ≡ well_made bytes.items },
 }

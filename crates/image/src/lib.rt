@@ -5,6 +5,7 @@
 pub mod blanks;
 pub mod calls;
 mod codes;
+mod heads;
 pub mod images;
 mod making;
 #[cfg(test)]

@@ -25,10 +25,7 @@ const RECORD: Record = Record {
 
 // A chip of these bytes, which are an image.
 fn chip_of(bytes: Vec<u8>) -> Result<ImageChip, Fail> {
-    match ImageChip::new(bytes) {
-        Ok(chip) => Ok(chip),
-        Err(_) => Err(Fail::new("no image")),
-    }
+    ImageChip::new(bytes).map_err(|_| Fail::new("no image"))
 }
 
 #[test]
