@@ -1,5 +1,5 @@
 -- Records that clash, by their tags and data, and the first place that clashes with an earlier one. Assumes nothing.
-use Rattle.std.proofs.Common.{◌≡◌, ℕ, zero, suc, ◌+◌, ◌*◌, ◌/◌, ◌%◌, ◌<◌, Bool, true, false, not, ◌&&◌, ◌||◌, eqb, List, [], ◌∷◌, length, get_or, take, Some, None, refl, ap, ◌∙◌, subst, ⊎_elim, arith}
+use Rattle.std.proofs.Common.{◌≡◌, ℕ, zero, suc, ◌+◌, ◌*◌, ◌/◌, ◌%◌, ◌<◌, Bool, true, false, not, ◌&&◌, ◌||◌, eqb, List, [], ◌∷◌, length, get_or, take, Some, None, sym, refl, ap, ◌∙◌, subst, ⊎_elim, arith}
 use Rattle.std.specs.Str.{bytes_eq}
 use Rattle.rules.specs.Lists.{any, same_bytes}
 use Rattle.flash.specs.declared.chunks.Record.{Record}
@@ -11,14 +11,18 @@ use Rattle.std.proofs.lemmas.List.Recursion.{or_at, or_from_places}
 use Rattle.std.proofs.lemmas.Bool.{both_ways, or_parts, or_cases}
 use Rattle.flash.specs.Model.{State, blocks_of}
 use Rattle.scan.specs.Flat.{flat}
-use Rattle.scan.specs.Tables.{row_of}
+use Rattle.flash.specs.declared.chunks.Look.{Look}
+use Rattle.flash.specs.declared.chunks.Look.TheVariants.{Blank as BlankL, Record as RecordL}
+use Rattle.flash.specs.declared.chunks.Sizes.{Sizes}
+use Rattle.scan.specs.Tables.{TableOf, row_of}
+use Rattle.scan.proofs.Telling.{told}
 use Rattle.scan.proofs.Flat.{flat-long}
 use Rattle.scan.proofs.Placed.{placed_from, placed-rows, none_here, some-here, same_place}
 use Rattle.rules.specs.Mounting.{same_record, unlike, first_clash, placed}
 use Rattle.scan.specs.Clashes.{clashing, clashes_to}
 
 -- two tags are the same
-abbrev pub same_tag : Tag → Tag → Bool
+abbrev same_tag : Tag → Tag → Bool
 same_tag t u = eqb t.first u.first && (eqb t.second u.second && (eqb t.third u.third && eqb t.serial u.serial))
 
 bytes-same : (xs ys : List ℕ) → same_bytes xs ys ≡ bytes_eq xs ys
@@ -50,6 +54,14 @@ pub clash-is : {x y : Chunk} {a b : Record} {t u : Tag} → x ≡ Holds a → y 
     → clashing x y ≡ (eqb t.serial u.serial && not (same_tag t u && bytes_eq a.bytes b.bytes))
 clash-is {a = a} {b = b} p q e f = rw (p, q, ← e, ← f) (unlike-is a b)
 
+-- the same of what two rows tell, as far as the tags say it
+pub clash-told : {s u : State} {z w : Sizes} {rows others : List Look} (a : TableOf s z rows) (b : TableOf u w others) (j i : ℕ) {g h : Tag} → get_or rows j BlankL ≡ RecordL g → get_or others i BlankL ≡ RecordL h
+    → (v : Bool) × (clashing (row_of s j) (row_of u i) ≡ (eqb g.serial h.serial && not (same_tag g h && v)))
+clash-told a b j i {g = g} {h = h} e f =
+    let x = told a j g e in
+    let y = told b i h f in
+    (bytes_eq x.0.bytes y.0.bytes, clash-is x.1 y.1 x.2 y.2)
+
 -- a chunk that holds no record clashes with none
 pub clash-none : (x y : Chunk) → ((r : Record) → y ≡ Holds r → ⊥) → clashing x y ≡ false
 clash-none Blank y n = refl
@@ -69,15 +81,15 @@ module _ (s : State) (j : ℕ) (inside : j < s.n * s.p) where
   long : length (take j (flat (blocks_of s))) ≡ j
   long = length-take-le j (flat (blocks_of s)) (omega (arith, flat-long s))
 
-  pub clash-found : (i : ℕ) → i < j → clashing (row_of s j) (row_of s i) ≡ true → clashes_to s j j ≡ true
+  pub clash-found : (i : ℕ) → i < j → true ≡ clashing (row_of s j) (row_of s i) → true ≡ clashes_to s j j
   clash-found i h e =
-      or_at (any (clashing (row_of s j))) (clashing (row_of s j)) refl (λ _ _. refl) (take j (flat (blocks_of s))) i Blank (omega (arith, long))
-      (ap (clashing (row_of s j)) (get_or-take j (flat (blocks_of s)) i Blank h) ∙ e)
+      sym (or_at (any (clashing (row_of s j))) (clashing (row_of s j)) refl (λ _ _. refl) (take j (flat (blocks_of s))) i Blank (omega (arith, long))
+      (ap (clashing (row_of s j)) (get_or-take j (flat (blocks_of s)) i Blank h) ∙ sym e))
 
-  pub clash-nowhere : ((i : ℕ) → i < j → clashing (row_of s j) (row_of s i) ≡ false) → clashes_to s j j ≡ false
+  pub clash-nowhere : ((i : ℕ) → i < j → clashing (row_of s j) (row_of s i) ≡ false) → false ≡ clashes_to s j j
   clash-nowhere f =
-      or_from_places (any (clashing (row_of s j))) (clashing (row_of s j)) refl (λ _ _. refl) (take j (flat (blocks_of s))) Blank
-      (λ i h. let l : i < j = omega (arith, long) in ap (clashing (row_of s j)) (get_or-take j (flat (blocks_of s)) i Blank l) ∙ f i l)
+      sym (or_from_places (any (clashing (row_of s j))) (clashing (row_of s j)) refl (λ _ _. refl) (take j (flat (blocks_of s))) Blank
+      (λ i h. let l : i < j = omega (arith, long) in ap (clashing (row_of s j)) (get_or-take j (flat (blocks_of s)) i Blank l) ∙ f i l))
 
 -- a record at row k clashes with one of those before the rows, or with one of the rows before it
 abbrev Clash : List Record → List Chunk → ℕ → Record → Bool
@@ -118,14 +130,13 @@ row-clash : (s : State) (k : ℕ) (r : Record) (b : Bool) → row_of s k ≡ Hol
 row-clash s k r b e h = subst (λ (x : Chunk). any (clashing x) (take k (flat (blocks_of s))) ≡ b) e h
 
 -- no row clashes with an earlier one
-pub first-clash-none : (s : State) → ((k : ℕ) → k < s.n * s.p → clashes_to s k k ≡ false) → first_clash [] (placed 0 (blocks_of s)) ≡ None
+pub first-clash-none : (s : State) → ((k : ℕ) → k < s.n * s.p → clashes_to s k k ≡ false) → None ≡ first_clash [] (placed 0 (blocks_of s))
 first-clash-none s h =
-    ap (first_clash []) (placed-rows s)
-    ∙ none_rows s.p 0 [] (flat (blocks_of s)) (λ k r l e. row-clash s k r false e (h k (omega (arith, flat-long s))))
+    sym (ap (first_clash []) (placed-rows s) ∙ none_rows s.p 0 [] (flat (blocks_of s)) (λ k r l e. row-clash s k r false e (h k (omega (arith, flat-long s)))))
 
 -- row k is the first that does
-pub first-clash-some : (s : State) (k : ℕ) (r : Record) → row_of s k ≡ Holds r → clashes_to s k k ≡ true → ((j : ℕ) → j < k → clashes_to s j j ≡ false) → first_clash [] (placed 0 (blocks_of s)) ≡ Some (k / s.p, k % s.p)
+pub first-clash-some : (s : State) (k : ℕ) (r : Record) → row_of s k ≡ Holds r → true ≡ clashes_to s k k → ((j : ℕ) → j < k → clashes_to s j j ≡ false) → first_clash [] (placed 0 (blocks_of s)) ≡ Some (k / s.p, k % s.p)
 first-clash-some s k r e y h =
     ap (first_clash []) (placed-rows s)
-    ∙ some-rows s.p 0 [] (flat (blocks_of s)) k r e (row-clash s k r true e y) (λ j a l f. row-clash s j a false f (h j l))
+    ∙ some-rows s.p 0 [] (flat (blocks_of s)) k r e (row-clash s k r true e (sym y)) (λ j a l f. row-clash s j a false f (h j l))
     ∙ same_place s.p (0 + k) k (omega arith)

@@ -51,7 +51,7 @@ no_both marker_k a b = both_ways false refl a
 no_both other_k a b = both_ways false refl a
 
 -- the name noted: that of some header of the object's file, or none where there is no such header
-pub noted-cases : (filed : Record → Bool) (o : ℕ) (was : Option (List ℕ)) (xs : List Chunk) → 257 ≤ o → o ≤ 511
+noted-cases : (filed : Record → Bool) (o : ℕ) (was : Option (List ℕ)) (xs : List Chunk) → 257 ≤ o → o ≤ 511
     → ((noted filed o was xs ≡ was) × ((r : Record) → Among r (records_of xs) → is_header (kind r) ≡ true → filed r ≡ true → object r ≡ o → ⊥))
     ⊎ ((r : Record) × Among r (records_of xs) × (is_header (kind r) ≡ true) × (filed r ≡ true) × (object r ≡ o) × (noted filed o was xs ≡ name_from r.bytes))
 noted-cases filed o was [] low high = inl (refl, λ r a. absurd a)
@@ -98,7 +98,7 @@ module _ (s : State) (z : Sizes) (rows : List Look) (t : TableOf s z rows) where
   })).0
 
   -- the names noted are those of the files, once records of one serial are equal
-  pub names-mirror : (names : Entries) → AllChecked s rows names → ((r : Record) → Among r rs → keeps_rules r ≡ true) → Unique rs → Mirrors names (files rs)
+  names-mirror : (names : Entries) → AllChecked s rows names → ((r : Record) → Among r rs → keeps_rules r ≡ true) → Unique rs → Mirrors names (files rs)
   names-mirror names h keeps u o low high = h.named o ∙ by-file (files rs o) refl (noted-cases (filed_by rows) o None (flat bs) low high)
     where
       filed-same : (r : Record) → filed_by rows r ≡ in_file rs r
@@ -137,7 +137,7 @@ whole_from : (rs : List Record) → ((r : Record) → Among r rs → length r.by
 whole_from [] f = refl
 whole_from (r ∷ rs) f = and_from _ _ (eq-eqb _ _ (f r (inl refl))) (whole_from rs (λ x a. f x (inr a)))
 
-pub whole-all : (s : State) → AllWhole s → whole_all (standing (blocks_of s)) ≡ true
+whole-all : (s : State) → AllWhole s → whole_all (standing (blocks_of s)) ≡ true
 whole-all s w = whole_from (standing (blocks_of s)) (λ r a. (stands-whole s w r a).bytes)
 
 fits-own : {s : State} {z : Sizes} {rows : List Look} → TableOf s z rows → sizes_fit z.blocks z.chunks ≡ true → sizes_fit s.n s.p ≡ true
@@ -201,14 +201,13 @@ module _ {s : State} {z : Sizes} {rows : List Look} {names : Entries} (p : Passe
   pub same-names : true ≡ two_named (files (standing (blocks_of s))) → Examined s (Err SameNames) rows names
   same-names e = record { answers = sym (verdict-then (sym e) refl refl); leaves = tt }
 
-  used-is : used (records rows) ≡ used_by (files (standing (blocks_of s)))
-  used-is = ap used (table-rs s z rows p.table) ∙ (bare-reads-alike (standing (blocks_of s))).used_same ∙ sym (used-by-files (standing (blocks_of s)) unique keeps)
+  large-is : ltb (limit z.blocks z.chunks) (used (records rows)) ≡ ltb (limit s.n s.p) (used_by (files (standing (blocks_of s))))
+  large-is =
+      rw (p.table.sizes.blocks, p.table.sizes.chunks)
+      (ap (ltb (limit s.n s.p)) (ap used (table-rs s z rows p.table) ∙ (bare-reads-alike (standing (blocks_of s))).used_same ∙ sym (used-by-files (standing (blocks_of s)) unique keeps)))
 
-  limit-is : limit z.blocks z.chunks ≡ limit s.n s.p
-  limit-is = ap (λ (x : ℕ). limit x z.chunks) p.table.sizes.blocks ∙ ap (λ (x : ℕ). limit s.n x) p.table.sizes.chunks
-
-  pub too-large : false ≡ two_named (files (standing (blocks_of s))) → limit z.blocks z.chunks < used (records rows) → Examined s (Err FilesTooLarge) rows names
-  too-large e l = record { answers = sym (verdict-then (sym e) (lt-ltb _ _ (rw (← limit-is, ← used-is) l)) refl); leaves = tt }
+  pub too-large : false ≡ two_named (files (standing (blocks_of s))) → true ≡ ltb (limit z.blocks z.chunks) (used (records rows)) → Examined s (Err FilesTooLarge) rows names
+  too-large e l = record { answers = sym (verdict-then (sym e) (sym (l ∙ large-is)) refl); leaves = tt }
 
   load-is : (i : ℕ) → load (table_blocks z.chunks z.blocks (bares rows)) i ≡ load (blocks_of s) i
   load-is i = rw (p.table.sizes.blocks, p.table.sizes.chunks) (ap (λ (xs : List (List Chunk)). load xs i) (table-bs s z rows p.table) ∙ (blocks-alike (blocks_of s)).load_same i)
@@ -228,15 +227,12 @@ module _ {s : State} {z : Sizes} {rows : List Look} {names : Entries} (p : Passe
       let n = p.table.sizes.blocks in
       false≢true ((d long).1 (w.0, omega (arith, w.1), load-is w.0 ∙ w.2)))
 
-  module _ (e : false ≡ two_named (files (standing (blocks_of s)))) (l : used (records rows) ≤ limit z.blocks z.chunks) where
-    small : ltb (limit s.n s.p) (used_by (files (standing (blocks_of s)))) ≡ false
-    small = le-ltb _ _ (rw (← limit-is, ← used-is) l)
-
+  module _ (e : false ≡ two_named (files (standing (blocks_of s)))) (l : false ≡ ltb (limit z.blocks z.chunks) (used (records rows))) where
     pub no-way : Idle rows z false → Examined s (Err NoWayOn) rows names
-    no-way d = record { answers = sym (verdict-then (sym e) small (idle-is false d)); leaves = tt }
+    no-way d = record { answers = sym (verdict-then (sym e) (sym (l ∙ large-is)) (idle-is false d)); leaves = tt }
 
     pub accepted : Idle rows z true → Examined s (Ok tt) rows names
     accepted d = record {
-      answers = sym (verdict-then (sym e) small (idle-is true d));
+      answers = sym (verdict-then (sym e) (sym (l ∙ large-is)) (idle-is true d));
       leaves = record { mirror = p.table.mirror; whole = whole-all s p.whole; named = mirror };
     }

@@ -1,6 +1,6 @@
 -- Chunks in rising place: chunk c of block b of p chunks is at b × p + c. Assumes nothing.
 use Rattle.std.proofs.Common.{◌≡◌, ℕ, zero, suc, ◌+◌, ◌*◌, ◌/◌, ◌%◌, ◌<◌, List, [], ◌∷◌, ◌++◌, length, get_or, sym, refl, ap, ◌∙◌, arith, length-append}
-use Rattle.std.proofs.lemmas.List.{ext_get_or}
+use Rattle.std.proofs.lemmas.List.{ext_get_or, get_or_append_left, get_or-append-add}
 use Rattle.flash.specs.declared.chunks.Record.{Record}
 use Rattle.flash.specs.declared.chunks.Chunk.{Chunk}
 use Rattle.flash.specs.declared.chunks.Chunk.TheVariants.{Blank, Damaged, Holds}
@@ -14,7 +14,7 @@ use Rattle.scan.specs.Flat.{flat, looks, looks_of}
 use Rattle.scan.proofs.Rows.{row_block, row-chunk, row_is}
 
 -- the records that stand are those of the chunks in rising place
-pub records-append : (xs ys : List Chunk) → records_of (xs ++ ys) ≡ records_of xs ++ records_of ys
+records-append : (xs ys : List Chunk) → records_of (xs ++ ys) ≡ records_of xs ++ records_of ys
 records-append [] ys = refl
 records-append (Blank ∷ xs) ys = records-append xs ys
 records-append (Damaged ∷ xs) ys = records-append xs ys
@@ -25,30 +25,21 @@ standing-flat [] = refl
 standing-flat (b ∷ bs) = records-append b (flat bs) ∙ ap {B = List Record} (λ zs. records_of b ++ zs) (standing-flat bs)
 
 -- n blocks of p chunks are n × p chunks
-pub flat-tab : {A : Type 0} (f : ℕ → ℕ → A) (p i n : ℕ) → length (flat (tab (λ b. tab (f b) 0 p) i n)) ≡ n * p
+flat-tab : {A : Type 0} (f : ℕ → ℕ → A) (p i n : ℕ) → length (flat (tab (λ b. tab (f b) 0 p) i n)) ≡ n * p
 unfolding tab
 flat-tab f p i zero = omega arith
 flat-tab f p i (suc n) = omega (arith, length-append (tab (f i) 0 p) (flat (tab (λ b. tab (f b) 0 p) (i + 1) n)), length-tab (f i) 0 p, flat-tab f p (i + 1) n)
 
-get_or-left : {A : Type 0} (xs ys : List A) (k : ℕ) (d : A) → k < length xs → get_or (xs ++ ys) k d ≡ get_or xs k d
-get_or-left [] ys k d l = absurd (omega arith)
-get_or-left (x ∷ xs) ys zero d l = refl
-get_or-left (x ∷ xs) ys (suc k) d l = get_or-left xs ys k d (omega arith)
-
-get_or-right : {A : Type 0} (xs ys : List A) (k : ℕ) (d : A) → get_or (xs ++ ys) (length xs + k) d ≡ get_or ys k d
-get_or-right [] ys k d = ap (λ (z : ℕ). get_or ys z d) (let e : 0 + k ≡ k = omega arith in e)
-get_or-right (x ∷ xs) ys k d = ap (λ (z : ℕ). get_or (x ∷ (xs ++ ys)) z d) (let e : suc (length xs) + k ≡ suc (length xs + k) = omega arith in e) ∙ get_or-right xs ys k d
-
-pub flat-at : {A : Type 0} (f : ℕ → ℕ → A) (p i n b c : ℕ) (d : A) → b < n → c < p → get_or (flat (tab (λ b. tab (f b) 0 p) i n)) (b * p + c) d ≡ f (i + b) c
+flat-at : {A : Type 0} (f : ℕ → ℕ → A) (p i n b c : ℕ) (d : A) → b < n → c < p → get_or (flat (tab (λ b. tab (f b) 0 p) i n)) (b * p + c) d ≡ f (i + b) c
 unfolding tab
 flat-at f p i zero b c d hb hc = absurd (omega arith)
 flat-at f p i (suc n) zero c d hb hc =
     ap (λ (z : ℕ). get_or (tab (f i) 0 p ++ flat (tab (λ b. tab (f b) 0 p) (i + 1) n)) z d) (let e : 0 * p + c ≡ c = omega arith in e)
-    ∙ get_or-left (tab (f i) 0 p) (flat (tab (λ b. tab (f b) 0 p) (i + 1) n)) c d (omega (arith, length-tab (f i) 0 p))
+    ∙ get_or_append_left (tab (f i) 0 p) (flat (tab (λ b. tab (f b) 0 p) (i + 1) n)) d c (omega (arith, length-tab (f i) 0 p))
     ∙ tab-at (f i) 0 p c d hc ∙ ap (λ (z : ℕ). f z (0 + c)) (let e : i ≡ i + 0 = omega arith in e) ∙ ap (f (i + 0)) (let e : 0 + c ≡ c = omega arith in e)
 flat-at f p i (suc n) (suc b) c d hb hc =
     ap (λ (z : ℕ). get_or (tab (f i) 0 p ++ flat (tab (λ b. tab (f b) 0 p) (i + 1) n)) z d) (let l = length-tab (f i) 0 p in let e : suc b * p + c ≡ length (tab (f i) 0 p) + (b * p + c) = omega arith in e)
-    ∙ get_or-right (tab (f i) 0 p) (flat (tab (λ b. tab (f b) 0 p) (i + 1) n)) (b * p + c) d
+    ∙ get_or-append-add (tab (f i) 0 p) (flat (tab (λ b. tab (f b) 0 p) (i + 1) n)) (b * p + c) d
     ∙ flat-at f p (i + 1) n b c d (omega arith) hc ∙ ap (λ (z : ℕ). f z c) (let e : (i + 1) + b ≡ i + suc b = omega arith in e)
 
 pub flat-long : (s : State) → length (flat (blocks_of s)) ≡ s.n * s.p

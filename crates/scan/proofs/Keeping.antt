@@ -22,7 +22,7 @@ rules-same r f marker_k h = refl
 rules-same r f other_k h = refl
 
 -- the first byte is all that counts of the data
-pub keeps_same : (r : Record) (t : Tag) (f : ℕ) → r.tag ≡ t → f ≡ first_if r → keeps_rules (record { tag = t; bytes = f ∷ [] }) ≡ keeps_rules r
+keeps_same : (r : Record) (t : Tag) (f : ℕ) → r.tag ≡ t → f ≡ first_if r → keeps_rules (record { tag = t; bytes = f ∷ [] }) ≡ keeps_rules r
 unfolding keeps_rules kind
 keeps_same r t f g e = rw (← g) (ap (λ (x : Bool). within 1 4294967295 r.tag.serial && x) (rules-same r f (kind_by r.tag.first) (λ h. e ∙ cond-true (is_header (kind_by r.tag.first)) (first_byte r.bytes) 0 h)))
 

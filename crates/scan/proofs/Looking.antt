@@ -15,14 +15,6 @@ use Rattle.scan.specs.Flat.{looks_of}
 use Rattle.scan.specs.Scans.{AllWhole, ScannedTo}
 use Rattle.scan.proofs.Flat.{rows_are}
 
--- a look at a chunk that is there, on a chip that is on, is not refused
-pub not-refused : (s : State) (q : Place) (f : Fault) → s.on ≡ true → q.block < s.n → q.chunk < s.p → NotLooked s q f → ⊥
-not-refused s q Off on hb hc e = both_ways s.on e on
-not-refused s q NoSuchPlace on hb hc e = ⊎_elim (λ (x : s.n ≤ q.block). omega arith) (λ (x : s.p ≤ q.chunk). omega arith) e.1
-not-refused s q NotBlank on hb hc e = e
-not-refused s q (SupplyFailed a) on hb hc e = e
-not-refused s q NoRecord on hb hc e = e
-
 pub scanned-more : (s : State) (q : Place) (v : Look) (i : ℕ) (xs : List Look) → i < length xs → q.block ≡ i / s.p → q.chunk ≡ i % s.p → LookDone s q v → ScannedTo s i xs → ScannedTo s (i + 1) (set xs i v)
 scanned-more s q v i xs h eb ec d t = record {
   seen = λ k l. ⊎_elim

@@ -16,12 +16,6 @@ use Rattle.scan.proofs.Rows.{row_block, row-chunk}
 use Rattle.scan.proofs.Telling.{row-cell}
 
 -- a record stands in some row, and what a row holds stands
-blank-holds : (r : Record) → Blank ≡ Holds r → ⊥
-blank-holds r e = let z : ◌≡◌ {A = ℕ} 0 1 = cc in omega arith
-
-damaged-holds : (r : Record) → Damaged ≡ Holds r → ⊥
-damaged-holds r e = let z : ◌≡◌ {A = ℕ} 0 1 = cc in omega arith
-
 in_row : (cs : List Chunk) (r : Record) → Among r (records_of cs) → (k : ℕ) × (k < length cs) × (get_or cs k Blank ≡ Holds r)
 in_row [] r a = absurd a
 in_row (Blank ∷ cs) r a = let q = in_row cs r a in (suc q.0, omega (arith, q.1), q.2)
@@ -30,10 +24,10 @@ in_row (Holds x ∷ cs) r (inl e) = (0, omega arith, ap Holds e)
 in_row (Holds x ∷ cs) r (inr a) = let q = in_row cs r a in (suc q.0, omega (arith, q.1), q.2)
 
 from_row : (cs : List Chunk) (k : ℕ) (r : Record) → get_or cs k Blank ≡ Holds r → Among r (records_of cs)
-from_row [] k r e = absurd (blank-holds r e)
-from_row (Blank ∷ cs) zero r e = absurd (blank-holds r e)
+from_row [] k r e = cc
+from_row (Blank ∷ cs) zero r e = cc
 from_row (Blank ∷ cs) (suc k) r e = from_row cs k r e
-from_row (Damaged ∷ cs) zero r e = absurd (damaged-holds r e)
+from_row (Damaged ∷ cs) zero r e = cc
 from_row (Damaged ∷ cs) (suc k) r e = from_row cs k r e
 from_row (Holds x ∷ cs) zero r e = inl cc
 from_row (Holds x ∷ cs) (suc k) r e = inr (from_row cs k r e)

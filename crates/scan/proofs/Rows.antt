@@ -1,7 +1,7 @@
 -- Rows and places: row k of a table of blocks of p chunks is chunk k % p of block k / p. Assumes nothing.
 use Rattle.std.proofs.Common.{◌≡◌, ℕ, zero, suc, ◌+◌, ◌*◌, ◌/◌, ◌%◌, ◌<◌, mod-lt, div-lt_iff_lt-mul, div-add-mod', arith}
 
-pub some-chunk : (n p k : ℕ) → k < n * p → 0 < p
+some-chunk : (n p k : ℕ) → k < n * p → 0 < p
 some-chunk n zero k h = absurd (let e : n * 0 ≡ 0 = omega arith in omega arith)
 some-chunk n (suc p) k h = omega arith
 

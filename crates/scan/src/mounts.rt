@@ -1,3 +1,7 @@
+ghost use Rattle.std.specs.Prelude.{◌≡◌, nat_lt};
+ghost use Rattle.rules.specs.Mounting.{limit};
+ghost use Rattle.rules.specs.Reading.{used};
+ghost use Rattle.tags.specs.Bare.{records};
 ghost use Rattle.names.specs.Names.{entries_of};
 ghost use Rattle.scan.specs.Mounts.{Examined, Idle};
 
@@ -17,6 +21,13 @@ impl<C: Chip> Scan<'_, C> {
         (0..self.sizes.blocks as usize).any(|block| load(self.rows, chunks, block) == 0)
     }
 
+    // Whether the files use more chunks than they may.
+    fn too_large(&self) -> bool
+        ensures { result ≡ nat_lt (limit self.now.sizes.blocks self.now.sizes.chunks) (used (records self.now.rows.now)) }
+    {
+        used(self.rows) > limit(self.sizes)
+    }
+
     // Checks what the chip holds, and notes the names of the files.
     pub(crate) fn examine(&self, names: &mut Names) -> Result<(), Refusal>
         ensures { Examined (C.Chip.model self.now.chip.now) result self.now.rows.now (entries_of names.new) }
@@ -28,7 +39,7 @@ impl<C: Chip> Scan<'_, C> {
         if names.two_alike() {
             return Err(Refusal::SameNames);
         }
-        if used(self.rows) > limit(self.sizes) {
+        if self.too_large() {
             return Err(Refusal::FilesTooLarge);
         }
         if !self.some_idle() {

@@ -22,10 +22,10 @@ pub returns-then-branch : goal.returns-then-branch
 returns-then-branch g c =
     let e = c.args.self.now in
     let l : c.loop-row.row < e.row = omega (arith, length-take {A = Look}) in
-    sym (clash-found (g.C.Chip.model e.scan.now.chip.now) e.row (row_inside e.scan.now.table e.row e.there) c.loop-row.row l (sym c.in_ok-clashes_with.ensures ∙ c.if-branch.true))
+    clash-found (g.C.Chip.model e.scan.now.chip.now) e.row (row_inside e.scan.now.table e.row e.there) c.loop-row.row l (sym c.if-branch.true ∙ c.in_ok-clashes_with.ensures)
 
 pub returns : goal.returns
 returns g c =
     let e = c.args.self.now in
     let l : e.row ≤ c.loop-row.row = omega (arith, e.there, length-take {A = Look}) in
-    sym (clash-nowhere (g.C.Chip.model e.scan.now.chip.now) e.row (row_inside e.scan.now.table e.row e.there) (λ i h. c.loop-row.invariant i (omega arith)))
+    clash-nowhere (g.C.Chip.model e.scan.now.chip.now) e.row (row_inside e.scan.now.table e.row e.there) (λ i h. c.loop-row.invariant i (omega arith))

@@ -20,20 +20,20 @@ returns-then-two_alike g c =
     let p = passed x.table x.fit x.whole c.in_ok-check_rows.ensures (rw c.in_default.is at c.in_ok-at.ensures) in
     same-names p (c.if-two_alike.ensures.files _ (mirror p))
 
-pub returns-then-used-limit : goal.returns-then-used-limit
-returns-then-used-limit g c =
+pub returns-then-too_large : goal.returns-then-too_large
+returns-then-too_large g c =
     let x = c.args.self.now in
     let p = passed x.table x.fit x.whole c.in_ok-check_rows.ensures (rw c.in_default.is at c.in_ok-at.ensures) in
-    too-large p (c.if-two_alike.ensures.files _ (mirror p)) (rw (c.limit.ensures, c.used.ensures) at c.if-used-limit.true)
+    too-large p (c.if-two_alike.ensures.files _ (mirror p)) c.if-too_large.ensures
 
 pub returns-then-not-some_idle : goal.returns-then-not-some_idle
 returns-then-not-some_idle g c =
     let x = c.args.self.now in
     let p = passed x.table x.fit x.whole c.in_ok-check_rows.ensures (rw c.in_default.is at c.in_ok-at.ensures) in
-    no-way p (c.if-two_alike.ensures.files _ (mirror p)) (rw (c.limit.ensures, c.used.ensures) at c.if-used-limit.false) c.if-not-some_idle.ensures
+    no-way p (c.if-two_alike.ensures.files _ (mirror p)) c.if-too_large.ensures c.if-not-some_idle.ensures
 
 pub returns : goal.returns
 returns g c =
     let x = c.args.self.now in
     let p = passed x.table x.fit x.whole c.in_ok-check_rows.ensures (rw c.in_default.is at c.in_ok-at.ensures) in
-    accepted p (c.if-two_alike.ensures.files _ (mirror p)) (rw (c.limit.ensures, c.used.ensures) at c.if-used-limit.false) c.if-not-some_idle.ensures
+    accepted p (c.if-two_alike.ensures.files _ (mirror p)) c.if-too_large.ensures c.if-not-some_idle.ensures

@@ -16,10 +16,10 @@ returns-then-branch g c =
     let t = c.args.self.now.table in
     let r = told t c.loop-row.row c.in-Record.tag c.in-Record.is in
     let q = c.place.ensures in
-    let e = first-clash-some (g.C.Chip.model c.args.self.now.chip.now) c.loop-row.row r.0 r.1 (sym c.in_ok-clash_before.ensures ∙ c.if-branch.true) c.loop-row.invariant in
+    let e = first-clash-some (g.C.Chip.model c.args.self.now.chip.now) c.loop-row.row r.0 r.1 (sym c.if-branch.true ∙ c.in_ok-clash_before.ensures) c.loop-row.invariant in
     cc
 
 pub returns : goal.returns
 returns g c =
     let s = g.C.Chip.model c.args.self.now.chip.now in
-    sym (first-clash-none s (λ k h. c.loop-row.invariant k (omega (arith, rows_long s _ _ c.args.self.now.table))))
+    first-clash-none s (λ k h. c.loop-row.invariant k (omega (arith, rows_long s _ _ c.args.self.now.table)))
