@@ -4,18 +4,11 @@ use Rattle.std.proofs.lemmas.List.{map-id}
 use Rattle.std.proofs.lemmas.Iterator.{YieldsList-from_slice}
 use Rattle.std.proofs.lemmas.Iterator.Consumers.{YieldsList-from_filter_map, YieldsList-end}
 use Rattle.flash.specs.Chunks.{tag_in}
-use Rattle.reading.proofs.Hiding.{Noting, noting-none, noting-more, hidden-by}
+use Rattle.reading.proofs.Hiding.{Noting, noting-none, hidden-by}
 use Rattle.reading.proofs.hiders.Hiders.of.Goals as goal
 
 pub loop-tag-init : goal.loop-tag-init
 loop-tag-init c = record { of = refl; noted = noting-none c.args.object }
-
-pub loop-tag-preserved : goal.loop-tag-preserved
-loop-tag-preserved c =
-    record {
-      of = c.note.ensures.object ∙ c.loop-tag.invariant.of;
-      noted = noting-more c.args.object c.loop-tag.yielded c.in-Some.tag c.loop-tag.hiders.serials c.note.new.self.serials (search rules) c.loop-tag.invariant.noted;
-    }
 
 pub returns-clause-tells : goal.returns-clause-tells
 returns-clause-tells c =
