@@ -1,5 +1,5 @@
 -- What an index tells, and when it knows a chip. Assumes nothing.
-use Rattle.std.specs.Prelude.{◌≡◌, ℕ, ◌*◌, true, List, map, take, None, Ok, Err, vec_items, Result}
+use Rattle.std.specs.Prelude.{◌≡◌, ◌*◌, true, List, map, take, None, Ok, Err, vec_items, Result}
 use Rattle.flash.specs.declared.chunks.Look.{Look}
 use Rattle.flash.specs.Blocks.{standing}
 use Rattle.flash.specs.Model.{State, View, view_of}
