@@ -1,6 +1,6 @@
 -- Bytes laid over the front of a buffer, one part after another. Assumes nothing.
 use Rattle.std.proofs.Common.{◌≡◌, ℕ, ◌+◌, ◌-◌, ◌<◌, ◌≤◌, min, List, ◌++◌, length, get_or, take, drop, replicate, Some, None, sym, refl, ap, ◌∙◌, ⊎_elim, arith, rules}
-use borrow.Rule.Slice.PartMut.{put_mid, post_of}
+use borrow.Rule.Slice.PartMut.{put_mid}
 use Rattle.std.proofs.lemmas.List.{places, ext_get_or, get_or_append_left, get_or-append_right, get_or-drop, get_or-take, get_or_past, get_or-replicate, length-append, length-drop, length-take, length-replicate}
 use Rattle.std.proofs.lemmas.Bool.{cases_lt}
 use Rattle.flash.specs.Model.{tab}
@@ -74,22 +74,22 @@ shown-some count n xs ys bytes l e f b =
           (cases_lt k n);
     }
 
-copied-front : (xs part : List ℕ) (offset n k : ℕ) → k < n → offset + n ≤ length xs → get_or (take (offset + n - offset) (drop offset xs) ++ post_of 0 (n - 0) part) k 0 ≡ get_or xs (offset + k) 0
+copied-front : (xs part : List ℕ) (offset n k : ℕ) → k < n → offset + n ≤ length xs → get_or (take (offset + n - offset) (drop offset xs) ++ drop n part) k 0 ≡ get_or xs (offset + k) 0
 copied-front xs part offset n k h l = search (rules, places)
 
-copied-beyond : (xs part : List ℕ) (offset n k : ℕ) → n ≤ k → offset + n ≤ length xs → get_or (take (offset + n - offset) (drop offset xs) ++ post_of 0 (n - 0) part) k 0 ≡ get_or part k 0
+copied-beyond : (xs part : List ℕ) (offset n k : ℕ) → n ≤ k → offset + n ≤ length xs → get_or (take (offset + n - offset) (drop offset xs) ++ drop n part) k 0 ≡ get_or part k 0
 copied-beyond xs part offset n k h l = search (rules, places)
 
-copied-long : (xs part : List ℕ) (offset n : ℕ) → n ≤ length part → offset + n ≤ length xs → length (take (offset + n - offset) (drop offset xs) ++ post_of 0 (n - 0) part) ≡ length part
+copied-long : (xs part : List ℕ) (offset n : ℕ) → n ≤ length part → offset + n ≤ length xs → length (take (offset + n - offset) (drop offset xs) ++ drop n part) ≡ length part
 copied-long xs part offset n h l = search (rules, places)
 
 -- a part of the buffer takes a chunk's bytes from an offset on
 pub copied : (byte : ℕ → ℕ) (bytes ys part : List ℕ) (offset n : ℕ) → Shown byte bytes → offset + n ≤ 2048 → n ≤ length part → ys ≡ take (offset + n - offset) (drop offset bytes)
-    → ys ++ post_of 0 (n - 0) part ≡ laid byte offset n part
+    → ys ++ drop n part ≡ laid byte offset n part
 copied byte bytes ys part offset n s h l e =
     let w = s.long in
-    ap (λ (zs : List ℕ). zs ++ post_of 0 (n - 0) part) e
-    ∙ laid-is byte offset n part (take (offset + n - offset) (drop offset bytes) ++ post_of 0 (n - 0) part) l (copied-long bytes part offset n l (omega arith))
+    ap (λ (zs : List ℕ). zs ++ drop n part) e
+    ∙ laid-is byte offset n part (take (offset + n - offset) (drop offset bytes) ++ drop n part) l (copied-long bytes part offset n l (omega arith))
     (λ k g. copied-front bytes part offset n k g (omega arith) ∙ s.each (offset + k) (omega arith))
     (λ k g. copied-beyond bytes part offset n k g (omega arith))
 

@@ -1,6 +1,5 @@
 -- What a table finds of a chunk, and the bytes of that chunk. Assumes nothing.
-use Rattle.std.proofs.Common.{◌≡◌, ℕ, ◌*◌, List, length, get_or, take, Some, None, Option, sym, refl, ap, ◌∙◌, arith}
-use Rattle.std.proofs.lemmas.List.{length-take}
+use Rattle.std.proofs.Common.{◌≡◌, ℕ, ◌*◌, List, length, get_or, Some, None, Option, sym, refl, ap, ◌∙◌, arith}
 use Rattle.std.specs.Option.{option_map}
 use Rattle.flash.specs.declared.chunks.Look.{Look}
 use Rattle.flash.specs.declared.chunks.Look.TheVariants.{Blank as blank_l}
@@ -19,13 +18,8 @@ use Rattle.scan.specs.Flat.{flat}
 use Rattle.scan.specs.Tables.{row_of}
 use Rattle.scan.proofs.Flat.{flat-long, looks_long, looks-at}
 use Rattle.scan.proofs.Recorded.{stands-in-row, table-records}
-use Rattle.questions.specs.Reads.{counted, counted_at, HasRow, Stands, Readable}
+use Rattle.questions.specs.Reads.{counted, counted_at, Stands, Readable}
 use Rattle.questions.proofs.Fetching.{held}
-
--- what is found in the front of a table has a row there
-pub has-row : (z : Sizes) (rows looks : List Look) (found : Option Found) → looks ≡ take (z.blocks * z.chunks) rows → InPlace looks found → HasRow z found
-has-row z rows looks None e p = tt
-has-row z rows looks (Some f) e p = omega (arith, ap length e, length-take (z.blocks * z.chunks) rows, p.within)
 
 -- what the table finds of a chunk stands in its row, and has that chunk's bytes
 module _ (s : State) (z : Sizes) (rows : List Look) (ok : Readable s z rows) where

@@ -55,8 +55,7 @@ pub fn read<C: Chip>(
     ensures { Knows (view_of (C.Chip.model chip.now)) index.now → ReadAnswered (asked (C.Chip.model chip.now)) object position buffer.old result buffer.new }
 {
     let size = size(index, object)?;
-    let read = read_from(chip, index, object, size, position, buffer)?;
-    Ok(read)
+    Ok(read_from(chip, index, object, size, position, buffer)?)
 }
 
 // Writes a row for each file, by rising object number, and answers their number. The rows beyond them stay.

@@ -1,5 +1,7 @@
 // What an index answers of the chip that it knows: which files there are, their names, lengths and sizes, and, by fetches
 // from the chip, their bytes. It changes neither the index nor the chip, and takes no memory.
+//
+// That an index knows a chip (`Knows`) stands in each contract: a type that said so would ask more of callers.
 #![tactic(auto)]
 
 mod asks;

@@ -21,14 +21,12 @@ fn place_of(index: &Index, found: Found) -> Place
     ensures block { result.block ≡ found.place / index.now.sizes.chunks }
     ensures chunk { result.chunk ≡ found.place % index.now.sizes.chunks }
 {
-    match index.place(found.place) {
-        Some(at) => at,
-        None => unreachable(),
-    }
+    index.place(found.place).unwrap()
 }
 
 // Copies a chunk's bytes from an offset on into a part of the buffer, as many as the part holds or a chunk has, and
-// answers their number. The bytes of a missing chunk, and those past a chunk's byte count, are absent.
+// answers their number. The bytes of a missing chunk, and those past a chunk's byte count, are absent. A struct of chip and
+// index is no plainer: two functions take both, and `read` is given them apart.
 fn copy_chunk<C: Chip>(
     chip: &C,
     index: &Index,
@@ -48,7 +46,7 @@ fn copy_chunk<C: Chip>(
         bytes[counted..].fill(ABSENT);
     }
     let count = part.len().min(CHUNK_BYTES - offset);
-    part[0..count].copy_from_slice(&bytes[offset..offset + count]);
+    part[..count].copy_from_slice(&bytes[offset..offset + count]);
     Ok(count)
 }
 
@@ -68,17 +66,14 @@ pub(crate) fn read_from<C: Chip>(
     let count = buffer
         .len()
         .min(u64::from(size).saturating_sub(position) as usize);
+    // Parts differ in length, as a chunk or the buffer ends, so `at` is kept by hand. Tried: `chunks_mut`, but a proof knows
+    // nothing of what it lent; and a `for` over chunk numbers is no plainer, as it clamps both ends of each part.
     let mut at = 0;
     while at < count {
         let here = position as usize + at;
         let found = chunk(rows, object, (here / CHUNK_BYTES + 1) as u32);
-        at += copy_chunk(
-            chip,
-            index,
-            found,
-            here % CHUNK_BYTES,
-            &mut buffer[at..count],
-        )?;
+        let offset = here % CHUNK_BYTES;
+        at += copy_chunk(chip, index, found, offset, &mut buffer[at..count])?;
     }
     Ok(count)
 }

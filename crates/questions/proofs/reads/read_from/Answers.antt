@@ -1,4 +1,4 @@
-use Rattle.std.proofs.Common.{◌≡◌, ℕ, ◌+◌, ◌-◌, ◌/◌, ◌%◌, ◌≤◌, min, List, length, vec_items, sym, ap, ◌∙◌, subst, arith}
+use Rattle.std.proofs.Common.{◌≡◌, ℕ, ◌+◌, ◌-◌, ◌/◌, ◌%◌, ◌≤◌, min, List, length, sym, ap, ◌∙◌, subst, arith}
 use Rattle.flash.specs.declared.chunks.Look.{Look}
 use Rattle.flash.specs.Blocks.{standing}
 use Rattle.flash.specs.Model.{blocks_of}
@@ -11,16 +11,11 @@ use Rattle.scan.specs.Indexes.{looks_in}
 use Rattle.questions.specs.Reads.{laid, counted_at}
 use Rattle.questions.proofs.FileBytes.{part-most, read_more, read_all}
 use Rattle.questions.proofs.Laying.{laid_none}
-use Rattle.questions.proofs.Mirrored.{has-row, found-stands, found-bytes}
+use Rattle.questions.proofs.Mirrored.{found-stands, found-bytes}
 use Rattle.questions.proofs.reads.read_from.Goals as goal
 
 pub loop-at-init : goal.loop-at-init
 loop-at-init g c = (omega arith, λ f k e. laid_none (byte_at f) c.args.position c.args.buffer.now)
-
-pub copy_chunk-requires : goal.copy_chunk-requires
-copy_chunk-requires g c =
-    let x = c.args.index.now in
-    record { row = has-row x.sizes (vec_items x.rows) c.looks-rows.result.now c.chunk-found.result c.looks-rows.ensures c.chunk-found.ensures.place; offset = omega arith }
 
 pub returns-in_err-at : goal.returns-in_err-at
 returns-in_err-at g c = λ f k h e.
