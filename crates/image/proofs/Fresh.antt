@@ -10,10 +10,10 @@ use Rattle.image.proofs.Spots.{state-at}
 use Rattle.image.proofs.States.{at-image}
 
 -- one chunk more
-pub chunks-more : (k : ℕ) → blank_chunks k ++ blank_chunk ≡ blank_chunks (k + 1)
-chunks-more zero = sym (append-nil blank_chunk)
-chunks-more (suc k) =
-    append_assoc blank_chunk (blank_chunks k) blank_chunk ∙ ap (λ (xs : List ℕ). blank_chunk ++ xs) (chunks-more k)
+pub chunks_more : (k : ℕ) → blank_chunks k ++ blank_chunk ≡ blank_chunks (k + 1)
+chunks_more zero = sym (append-nil blank_chunk)
+chunks_more (suc k) =
+    append_assoc blank_chunk (blank_chunks k) blank_chunk ∙ ap (λ (xs : List ℕ). blank_chunk ++ xs) (chunks_more k)
     ∙ ap blank_chunks (let e : suc (k + 1) ≡ suc k + 1 = omega arith in e)
 
 length-blank : length blank_chunk ≡ 2065

@@ -6,6 +6,7 @@ use crate::codes::{BLANK, CHUNK};
 use crate::heads::HEAD;
 use std::alloc::{AllocError, Global};
 
+#[tactic(auto, unfolding(crate::specs::Blanks::blank_chunk))]
 fn blank_chunk() -> [u8; CHUNK]
     ensures { result ≡ blank_chunk }
 {
@@ -15,6 +16,7 @@ fn blank_chunk() -> [u8; CHUNK]
 }
 
 // The image of a blank chip that is off.
+#[tactic(auto, using(crate::proofs::Fresh::chunks_more))]
 pub fn blank(heap: Global, blocks: u8, chunks: u8) -> Result<Vec<u8>, AllocError>
     ensures bytes { IfOk result (λ v. v.items ≡ blank_image blocks chunks) }
     ensures chip { IfOk result (λ v. (misfit v.items ≡ 0) × BlankChip blocks chunks (image_of v.items)) }

@@ -76,10 +76,7 @@ impl Chip for ImageChip {
         if !all_blank(rest) {
             return Err(Fault::NotBlank);
         }
-        self.bytes[found.start..found.start + CHUNK].copy_from_slice(&code_of(
-            record.tag,
-            &record.bytes,
-        ));
+        self.bytes[found.start..found.start + CHUNK].copy_from_slice(&code_of(record));
         Ok(())
     }
 

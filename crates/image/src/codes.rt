@@ -1,10 +1,10 @@
-ghost use Rattle.std.specs.Prelude.{◌≡◌, ◌+◌, ◌*◌, ◌≤◌, ◌↔◌, length, IsTrue};
+ghost use Rattle.std.specs.Prelude.{◌≡◌, ◌+◌, ◌≤◌, ◌↔◌, IsTrue};
 ghost use Rattle.flash.specs.Chunks.{look_of, Whole, WholeChunk};
 ghost use Rattle.image.specs.Format.{le32, data_of, chunk_of};
 ghost use Rattle.image.specs.Codes.{code_of};
 ghost use Rattle.image.specs.Places.{AllBlank};
 
-use flash::{Look, Tag};
+use flash::{Look, Record, Tag};
 
 // How many bytes each chunk takes, and where in a chunk the data begins.
 pub(crate) const CHUNK: usize = 2065;
@@ -18,7 +18,7 @@ pub(crate) const RECORD: u8 = 1;
 
 // The number of 32 bits at a byte of a chunk, the lowest byte first.
 fn number(chunk: &[u8; CHUNK], at: usize) -> u32
-    requires { at + 4 ≤ 2065 }
+    requires { at + 4 ≤ CHUNK }
     ensures { result ≡ le32 chunk.now at }
 {
     u32::from_le_bytes(*chunk[at..].first_chunk().unwrap())
@@ -50,16 +50,23 @@ pub(crate) fn copy_data(chunk: &[u8; CHUNK], buffer: &mut [u8; 2048])
 }
 
 // The bytes of a chunk that holds a record.
-pub(crate) fn code_of(tag: Tag, bytes: &[u8; 2048]) -> [u8; CHUNK]
-    ensures value { result ≡ code_of (record { tag = tag; bytes = bytes.now }) }
-    ensures whole { Whole (record { tag = tag; bytes = bytes.now }) }
+pub(crate) fn code_of(record: &Record) -> [u8; CHUNK]
+    ensures value { result ≡ code_of «record».now }
+    ensures whole { Whole «record».now }
 {
+    let Record { tag, bytes } = record;
+    let Tag {
+        first,
+        second,
+        third,
+        serial,
+    } = *tag;
     let mut chunk = [0; CHUNK];
     chunk[0] = RECORD;
-    chunk[1..5].copy_from_slice(&tag.first.to_le_bytes());
-    chunk[5..9].copy_from_slice(&tag.second.to_le_bytes());
-    chunk[9..13].copy_from_slice(&tag.third.to_le_bytes());
-    chunk[13..DATA].copy_from_slice(&tag.serial.to_le_bytes());
+    chunk[1..5].copy_from_slice(&first.to_le_bytes());
+    chunk[5..9].copy_from_slice(&second.to_le_bytes());
+    chunk[9..13].copy_from_slice(&third.to_le_bytes());
+    chunk[13..DATA].copy_from_slice(&serial.to_le_bytes());
     chunk[DATA..].copy_from_slice(bytes);
     chunk
 }

@@ -11,12 +11,10 @@ impl ImageChip {
     pub fn new(bytes: Vec<u8>) -> Result<ImageChip, Unmade<ImageChip>>
         ensures { Made bytes result }
     {
-        match Head::read(&bytes) {
-            Ok(_) => Ok(ImageChip { bytes }),
-            Err(why) => {
-                let chip = ImageChip { bytes };
-                Err(Unmade { chip, why })
-            }
+        let chip = ImageChip { bytes };
+        match Head::read(&chip.bytes) {
+            Ok(_) => Ok(chip),
+            Err(why) => Err(Unmade { chip, why }),
         }
     }
 
