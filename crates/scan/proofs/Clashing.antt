@@ -112,9 +112,9 @@ module _ (p : ℕ) where
 
   some-rows : (i : ℕ) (before : List Record) (xs : List Chunk) (k : ℕ) (r : Record) → get_or xs k Blank ≡ Holds r → Clash before xs k r ≡ true
       → ((j : ℕ) (a : Record) → j < k → get_or xs j Blank ≡ Holds a → Clash before xs j a ≡ false) → first_clash before (placed_from p i xs) ≡ Some ((i + k) / p, (i + k) % p)
-  some-rows i before [] k r e y h = absurd (let o : ◌≡◌ {A = ℕ} 0 1 = cc in omega arith)
-  some-rows i before (Blank ∷ xs) zero r e y h = absurd (let o : ◌≡◌ {A = ℕ} 0 1 = cc in omega arith)
-  some-rows i before (Damaged ∷ xs) zero r e y h = absurd (let o : ◌≡◌ {A = ℕ} 0 1 = cc in omega arith)
+  some-rows i before [] k r e y h = cc
+  some-rows i before (Blank ∷ xs) zero r e y h = cc
+  some-rows i before (Damaged ∷ xs) zero r e y h = cc
   some-rows i before (Holds a ∷ xs) zero r e y h =
       let q : a ≡ r = cc in
       some-here (any (unlike a) before) (i / p, i % p) _ (⊎_elim (λ (b : any (unlike r) before ≡ true). ap (λ (c : Record). any (unlike c) before) q ∙ b) (λ (b : false ≡ true). absurd (both_ways false refl b)) (or_cases _ _ y))

@@ -67,9 +67,9 @@ module _ (t : Record → Bool) (p : ℕ) where
       none_here (t a) (i / p, i % p) _ (h 0 a (omega arith) refl) ∙ none_rows (i + 1) xs (λ k r l. h (suc k) r (omega arith))
 
   some-rows : (i : ℕ) (xs : List Chunk) (k : ℕ) (r : Record) → get_or xs k Blank ≡ Holds r → t r ≡ true → ((j : ℕ) (a : Record) → j < k → get_or xs j Blank ≡ Holds a → t a ≡ false) → first_placed (λ q. t q.what) (placed_from p i xs) ≡ Some ((i + k) / p, (i + k) % p)
-  some-rows i [] k r e y h = absurd (let z : ◌≡◌ {A = ℕ} 0 1 = cc in omega arith)
-  some-rows i (Blank ∷ xs) zero r e y h = absurd (let z : ◌≡◌ {A = ℕ} 0 1 = cc in omega arith)
-  some-rows i (Damaged ∷ xs) zero r e y h = absurd (let z : ◌≡◌ {A = ℕ} 0 1 = cc in omega arith)
+  some-rows i [] k r e y h = cc
+  some-rows i (Blank ∷ xs) zero r e y h = cc
+  some-rows i (Damaged ∷ xs) zero r e y h = cc
   some-rows i (Holds a ∷ xs) zero r e y h =
       some-here (t a) (i / p, i % p) _ (ap t (let q : a ≡ r = cc in q) ∙ y) ∙ same_place p i (i + 0) (omega arith)
   some-rows i (Blank ∷ xs) (suc k) r e y h = some-rows (i + 1) xs k r e y (λ j a l. h (suc j) a (omega arith)) ∙ same_place p (i + 1 + k) (i + suc k) (omega arith)

@@ -40,15 +40,13 @@ module _ {s : State} {z : Sizes} {rows : List Look} (t : TableOf s z rows) where
   row_inside k h = omega (arith, rows_long s z rows t)
 
   pub row_in : (k : ℕ) → k < length rows → k < z.blocks * z.chunks
-  row_in k h =
-      let e : z.blocks * z.chunks ≡ s.n * s.p = ap (λ (a : ℕ). a * z.chunks) t.sizes.blocks ∙ ap (λ (a : ℕ). s.n * a) t.sizes.chunks in
-      omega (arith, rows_long s z rows t)
+  row_in k h = rw (t.sizes.blocks, t.sizes.chunks) (row_inside k h)
 
   pub row_place : (k : ℕ) (q : Place) → k < length rows → q.block ≡ k / z.chunks → q.chunk ≡ k % z.chunks → PlaceOf s k q
   row_place k q h eb ec =
       let l = row_inside k h in
-      let b : q.block ≡ k / s.p = eb ∙ ap (λ (a : ℕ). k / a) t.sizes.chunks in
-      let c : q.chunk ≡ k % s.p = ec ∙ ap (λ (a : ℕ). k % a) t.sizes.chunks in
+      let b : q.block ≡ k / s.p = rw t.sizes.chunks at eb in
+      let c : q.chunk ≡ k % s.p = rw t.sizes.chunks at ec in
       record {
         block = b;
         chunk = c;
