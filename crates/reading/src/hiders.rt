@@ -8,6 +8,7 @@ use rules::{Kind, LAST_NUMBER};
 use std::mem;
 use tags::{kind_of, object_of};
 
+// The chunk numbers and 0.
 const NUMBERS: usize = LAST_NUMBER as usize + 1;
 
 // What hides the chunks of an object, by chunk number: the largest serial of a record that hides there.
@@ -19,7 +20,7 @@ pub(crate) struct Hiders {
 
 impl Hiders {
     // What hides the chunks of the object, among the records that the looks tell of.
-    pub(crate) fn of(object: u32, looks: &[Look]) -> Hiders
+    pub(crate) fn of(looks: &[Look], object: u32) -> Hiders
         ensures object { result.object ≡ object }
         ensures tells { Tells (records looks.now) result }
     {

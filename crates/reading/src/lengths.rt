@@ -9,13 +9,14 @@ use flash::Look;
 use rules::CHUNK_BYTES;
 use tags::largest;
 
+// How many bytes a full chunk has.
 const BYTES: u32 = CHUNK_BYTES as u32;
 
 // The highest chunk number of the object that is not missing, or 0.
 pub fn highest_chunk(looks: &[Look], object: u32) -> u32
     ensures { result ≡ highest_chunk (records looks.now) object }
 {
-    let hiders = Hiders::of(object, looks);
+    let hiders = Hiders::of(looks, object);
     largest(looks, |tag| hiders.shown_number(&tag))
 }
 

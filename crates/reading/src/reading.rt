@@ -4,10 +4,10 @@ ghost use Rattle.tags.specs.Bare.{bare_tag, records};
 ghost use Rattle.tags.specs.Finds.{record_of, InPlace};
 
 use flash::{Look, Tag};
-use tags::tags::{data_of, head_of, hides};
-use tags::{Found, any, kind_of, newest};
+use tags::{Found, any, data_of, head_of, hides, kind_of, newest};
 
-// The reading rule.
+// The reading rule. Each takes the looks and the object, as the rules' words do: in a struct of both each contract would
+// take them out again, and a caller that asks for every object would make one for each.
 
 // The newest header of a present file: the newest head, if that is a header and not a marker.
 #[tactic(auto, unfolding(rules::specs::Reading::header, rules::specs::Records::kind))]

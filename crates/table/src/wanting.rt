@@ -5,11 +5,10 @@ ghost use Rattle.tags.specs.Bare.{bare_tag, records};
 use flash::{Look, Tag};
 use reading::{hidden, present};
 use rules::Kind;
-use tags::tags::{data_of, head_of, hides, newer, same_object};
-use tags::{any, kind_of, object_of};
+use tags::{any, data_of, head_of, hides, kind_of, newer, object_of, same_object};
 
-// Which records are in a file, and which are wanted. Each takes the table and the record, as the rules' words do: a
-// struct of the two would be made anew for each call, and each contract would have to take it apart.
+// Which records are in a file, and which are wanted. Each takes the looks and a record, as the rules' words do: in a
+// struct of both each contract would take them out again, and each call would make one anew.
 
 // Whether a newer header or marker of its object stands.
 #[tactic(auto, unfolding(rules::specs::Reading::topped))]

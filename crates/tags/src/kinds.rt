@@ -14,7 +14,8 @@ const MARKER: u32 = 0xC0000004;
 
 const OBJECTS: u32 = 0x10000000;
 
-// What a record with this tag is; a data record's first number is its chunk number. No From: neither type is this crate's.
+// What a record with this tag is; a data record's first number is its chunk number. A function and no From, since neither
+// type is of this crate.
 #[tactic(auto, unfolding(rules::specs::Records::kind_by))]
 pub fn kind_of(tag: &Tag) -> Kind
     ensures { result ≡ kind_by tag.now.first }

@@ -6,6 +6,9 @@ ghost use Rattle.tags.specs.Bare.{bare_tag, records};
 
 use flash::{Look, Tag};
 
+// The searches take a closure over a record's tag: for every p that it computes of the records, with the data left out,
+// they answer what the rules' word says of p.
+
 // Whether some record passes the test.
 pub fn any<F: Fn(Tag) -> bool>(looks: &[Look], test: F) -> bool
     requires { F.IsAlwaysCallable test }
@@ -19,10 +22,8 @@ pub fn largest<F: Fn(Tag) -> u32>(looks: &[Look], number: F) -> u32
     requires { F.IsAlwaysCallable number }
     ensures { (f : Record → ℕ) → ActsAs F.FnMut number (λ t. f (bare_tag t)) → result ≡ largest f (records looks.now) }
 {
-    looks
-        .iter()
-        .filter_map(Look::tag)
-        .fold(0, |most, tag| most.max(number(tag)))
+    let tags = looks.iter().filter_map(Look::tag);
+    tags.fold(0, |most, tag| most.max(number(tag)))
 }
 
 // The highest serial that stands, or 0.
