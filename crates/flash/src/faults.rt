@@ -56,6 +56,7 @@ impl Purpose {
 }
 
 impl Fault {
+    // A method by name: an enum with a variant that carries a value has no numbers of its own.
     pub fn number(&self) -> u32
         ensures { result ≡ (told self.now).0 }
     {

@@ -11,6 +11,9 @@ pub const FIRST_OBJECT: u32 = 257;
 
 pub const LAST_OBJECT: u32 = 511;
 
+// What headers and markers have their object number above.
+pub const OBJECT_BASE: u32 = 0x1000_0000;
+
 // How many bytes the longest name has, how many the data of a chunk, and the highest chunk number.
 pub const LONGEST_NAME: usize = 40;
 

@@ -7,18 +7,17 @@ use crate::refusals::Refusal;
 use crate::tables::{Entry, Scan};
 use flash::{Chip, Fault, Look, Tag};
 use names::Names;
-use rules::{CHUNK_BYTES, FIRST_OBJECT, Kind, LAST_NUMBER, LAST_OBJECT, LONGEST_NAME, is_object};
+use rules::{
+    CHUNK_BYTES, FIRST_OBJECT, Kind, LAST_NUMBER, LAST_OBJECT, LONGEST_NAME, OBJECT_BASE, is_object,
+};
 use table::in_file;
 use tags::{kind_of, object_of};
-
-// In a header or marker the object number stands above this one.
-const OBJECTS: u32 = 0x1000_0000;
 
 // The rules of a record of this kind, by its numbers and the first byte of its data.
 fn rules_by(kind: Kind, tag: &Tag, first: u8) -> bool
     ensures { result ≡ rules_by (record { tag = tag.now; bytes = first ∷ [] }) kind }
 {
-    let heads = (OBJECTS + FIRST_OBJECT..=OBJECTS + LAST_OBJECT).contains(&tag.second);
+    let heads = (OBJECT_BASE + FIRST_OBJECT..=OBJECT_BASE + LAST_OBJECT).contains(&tag.second);
     match kind {
         Kind::Data => {
             (1..=LAST_NUMBER).contains(&tag.first)

@@ -3,19 +3,17 @@ ghost use Rattle.rules.specs.Records.{kind_by, object as object_of};
 ghost use Rattle.tags.specs.Bare.{bare_tag};
 
 use flash::Tag;
-use rules::{Kind, LAST_NUMBER};
+use rules::{Kind, LAST_NUMBER, OBJECT_BASE};
 
-// The first number of each kind but data, and what is added to the object number in their second.
+// The first number of each kind but data: the chip's records are numbers, so these stay numbers.
 const HEADER: u32 = 0x80000001;
 
 const CUT_HEADER: u32 = 0xC0000001;
 
 const MARKER: u32 = 0xC0000004;
 
-const OBJECTS: u32 = 0x10000000;
-
-// What a record with this tag is; a data record's first number is its chunk number. A function and no From, since neither
-// type is of this crate.
+// What a record with this tag is; a data record's first number is its chunk number. A function by name: a From would have to
+// stand in `rules`, whose type Kind is, and would say no more.
 #[tactic(auto, unfolding(rules::specs::Records::kind_by))]
 pub fn kind_of(tag: &Tag) -> Kind
     ensures { result ≡ kind_by tag.now.first }
@@ -36,7 +34,7 @@ pub fn object_of(tag: &Tag) -> u32
 {
     match kind_of(tag) {
         Kind::Data => tag.second,
-        Kind::Header | Kind::CutHeader | Kind::Marker => tag.second.saturating_sub(OBJECTS),
+        Kind::Header | Kind::CutHeader | Kind::Marker => tag.second.saturating_sub(OBJECT_BASE),
         Kind::Other => 0,
     }
 }
