@@ -42,12 +42,12 @@ fn at(block: u32, chunk: u32) -> Place {
     Place { block, chunk }
 }
 
-fn add(chip: &mut BenchChip, block: u32, chunk: u32) -> Result<(), Fault> {
-    chip.program(Purpose::Adding, at(block, chunk), &record(9))
+fn add(chip: &mut BenchChip, at: Place) -> Result<(), Fault> {
+    chip.program(Purpose::Adding, at, &record(9))
 }
 
-fn expect(rt: &impl Abort, chip: &BenchChip, block: u32, chunk: u32, look: Look) {
-    assert_eq!(rt; chip.look(at(block, chunk)), Ok(look));
+fn expect(rt: &impl Abort, chip: &BenchChip, at: Place, look: Look) {
+    assert_eq!(rt; chip.look(at), Ok(look));
 }
 
 #[test]
@@ -84,7 +84,7 @@ fn none_fails(rt: HostRuntime) -> Result<(), Fail> {
     chip.restart();
     for _ in 0..3 {
         assert_eq!(rt; chip.erase(0), Ok(()));
-        assert_eq!(rt; add(&mut chip, 0, 0), Ok(()));
+        assert_eq!(rt; add(&mut chip, at(0, 0)), Ok(()));
     }
     assert!(rt; chip.is_on());
     Ok(())
@@ -100,14 +100,14 @@ fn the_first_fails(rt: HostRuntime) -> Result<(), Fail> {
     let mut chip = chip(vec![in rt.alloc(); Chunk::Blank; 2]?, 1, 2, plan)?;
     chip.restart();
     assert_eq!(rt;
-        add(&mut chip, 0, 0),
+        add(&mut chip, at(0, 0)),
         Err(Fault::SupplyFailed(Act::Adding(at(0, 0))))
     );
     assert_eq!(rt; chip.look(at(0, 0)), Err(Fault::Off));
     chip.restart();
-    expect(&rt, &chip, 0, 0, Look::Damaged);
-    assert_eq!(rt; add(&mut chip, 0, 0), Err(Fault::NotBlank));
-    assert_eq!(rt; add(&mut chip, 0, 1), Ok(()));
+    expect(&rt, &chip, at(0, 0), Look::Damaged);
+    assert_eq!(rt; add(&mut chip, at(0, 0)), Err(Fault::NotBlank));
+    assert_eq!(rt; add(&mut chip, at(0, 1)), Ok(()));
     Ok(())
 }
 
@@ -123,16 +123,16 @@ fn the_third_fails(rt: HostRuntime) -> Result<(), Fail> {
     chip.restart();
     assert_eq!(rt; chip.erase(0), Ok(()));
     assert_eq!(rt; chip.erase(1), Err(Fault::NoSuchPlace));
-    assert_eq!(rt; add(&mut chip, 0, 0), Ok(()));
+    assert_eq!(rt; add(&mut chip, at(0, 0)), Ok(()));
     chip.restart();
-    assert_eq!(rt; add(&mut chip, 0, 0), Err(Fault::NotBlank));
+    assert_eq!(rt; add(&mut chip, at(0, 0)), Err(Fault::NotBlank));
     assert_eq!(rt;
-        add(&mut chip, 0, 1),
+        add(&mut chip, at(0, 1)),
         Err(Fault::SupplyFailed(Act::Adding(at(0, 1))))
     );
     chip.restart();
-    expect(&rt, &chip, 0, 0, Look::Record(tag(9)));
-    expect(&rt, &chip, 0, 1, Look::Record(tag(9)));
+    expect(&rt, &chip, at(0, 0), Look::Record(tag(9)));
+    expect(&rt, &chip, at(0, 1), Look::Record(tag(9)));
     assert_eq!(rt; chip.erase(0), Ok(()));
     Ok(())
 }
@@ -148,11 +148,11 @@ fn a_failed_erase_keeps_damages_and_blanks(rt: HostRuntime) -> Result<(), Fail> 
     chip.restart();
     assert_eq!(rt; chip.erase(0), Err(Fault::SupplyFailed(Act::Erasing(0))));
     chip.restart();
-    expect(&rt, &chip, 0, 0, Look::Record(tag(0)));
-    expect(&rt, &chip, 0, 1, Look::Damaged);
-    expect(&rt, &chip, 0, 2, Look::Record(tag(2)));
-    expect(&rt, &chip, 0, 3, Look::Blank);
-    expect(&rt, &chip, 1, 0, Look::Record(tag(4)));
+    expect(&rt, &chip, at(0, 0), Look::Record(tag(0)));
+    expect(&rt, &chip, at(0, 1), Look::Damaged);
+    expect(&rt, &chip, at(0, 2), Look::Record(tag(2)));
+    expect(&rt, &chip, at(0, 3), Look::Blank);
+    expect(&rt, &chip, at(1, 0), Look::Record(tag(4)));
     Ok(())
 }
 
@@ -167,10 +167,10 @@ fn bits_end_at_63(rt: HostRuntime) -> Result<(), Fail> {
     chip.restart();
     assert_eq!(rt; chip.erase(0), Err(Fault::SupplyFailed(Act::Erasing(0))));
     chip.restart();
-    expect(&rt, &chip, 0, 0, Look::Damaged);
-    expect(&rt, &chip, 0, 62, Look::Damaged);
-    expect(&rt, &chip, 0, 63, Look::Blank);
-    expect(&rt, &chip, 0, 64, Look::Record(tag(64)));
-    expect(&rt, &chip, 0, 69, Look::Record(tag(69)));
+    expect(&rt, &chip, at(0, 0), Look::Damaged);
+    expect(&rt, &chip, at(0, 62), Look::Damaged);
+    expect(&rt, &chip, at(0, 63), Look::Blank);
+    expect(&rt, &chip, at(0, 64), Look::Record(tag(64)));
+    expect(&rt, &chip, at(0, 69), Look::Record(tag(69)));
     Ok(())
 }

@@ -91,7 +91,7 @@ impl Chip for ImageChip {
         if block >= u32::from(head.blocks) {
             return Err(Fault::NoSuchPlace);
         }
-        // By number, as a proof knows nothing of what chunks_exact_mut leaves behind.
+        // By number: after chunks_exact_mut a proof knows nothing of the bytes that it leaves.
         for chunk in 0..u32::from(head.chunks) {
             self.mark_blank(head.start_of(block, chunk));
         }
