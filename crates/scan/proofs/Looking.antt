@@ -1,16 +1,14 @@
 -- One more chunk looked at, and all of them. Assumes nothing.
-use Rattle.std.proofs.Common.{◌≡◌, ℕ, ◌+◌, ◌*◌, ◌/◌, ◌%◌, ◌<◌, ◌≤◌, true, ◌≢◌, List, length, get_or, set, sym, ap, ◌∙◌, subst, ⊎_elim, arith}
+use Rattle.std.proofs.Common.{◌≡◌, ℕ, ◌+◌, ◌*◌, ◌/◌, ◌%◌, ◌<◌, ◌≤◌, ◌≢◌, List, length, get_or, set, sym, ap, ◌∙◌, subst, ⊎_elim, arith}
 use lib.Arith.{digits_lt, digits_div, digits_mod}
 use Rattle.std.proofs.lemmas.List.{get_or-set_same, get_or-set_other}
-use Rattle.std.proofs.lemmas.Bool.{cases_eq, both_ways}
+use Rattle.std.proofs.lemmas.Bool.{cases_eq}
 use Rattle.flash.specs.declared.chunks.Look.{Look}
 use Rattle.flash.specs.declared.chunks.Look.TheVariants.{Blank}
 use Rattle.flash.specs.declared.chunks.Place.{Place}
-use Rattle.flash.specs.declared.faults.Fault.{Fault}
-use Rattle.flash.specs.declared.faults.Fault.TheVariants.{Off, NoSuchPlace, NotBlank, SupplyFailed, NoRecord}
 use Rattle.flash.specs.Chunks.{look_of, WholeChunk}
 use Rattle.flash.specs.Model.{State, blocks_of}
-use Rattle.flash.specs.Reads.{LookDone, NotLooked}
+use Rattle.flash.specs.Reads.{LookDone}
 use Rattle.scan.specs.Flat.{looks_of}
 use Rattle.scan.specs.Scans.{AllWhole, ScannedTo}
 use Rattle.scan.proofs.Flat.{rows_are}
