@@ -1,14 +1,20 @@
 -- Unlike records with one serial: where the first one stands that is unlike an earlier one. Assumes nothing.
-use Rattle.std.specs.Prelude.{◌≡◌, ℕ, Bool, false, [], take, Some, None, Ok, Err, Option, Result}
+use Rattle.std.specs.Prelude.{◌≡◌, ℕ, Bool, false, [], take, Some, None, Ok, Err, Decides, Option, Result}
 use Rattle.flash.specs.declared.chunks.Chunk.{Chunk}
 use Rattle.flash.specs.declared.chunks.Chunk.TheVariants.{Blank, Damaged, Holds}
 use Rattle.flash.specs.declared.chunks.Place.{Place}
+use Rattle.flash.specs.declared.chunks.Record.{Record}
 use Rattle.flash.specs.declared.faults.Fault.{Fault}
 use Rattle.flash.specs.Model.{State, blocks_of}
 use Rattle.rules.specs.Lists.{any}
 use Rattle.rules.specs.Mounting.{unlike, placed, first_clash}
 use Rattle.scan.specs.Flat.{flat}
 use Rattle.scan.specs.Tables.{row_of}
+
+-- whether two chunks hold records with the same data bytes
+abbrev pub DataAlike : Chunk → Chunk → Result Bool Fault → Type 0
+DataAlike x y (Ok v) = (a b : Record) → x ≡ Holds a → y ≡ Holds b → Decides v (a.bytes ≡ b.bytes)
+DataAlike x y (Err f) = ⊥
 
 -- two chunks hold unlike records with one serial
 abbrev pub clashing : Chunk → Chunk → Bool

@@ -1,11 +1,18 @@
 ghost use Rattle.std.specs.Prelude.{◌≡◌};
-ghost use Rattle.scan.specs.Clashes.{Clash, ClashBefore, Clashed};
+ghost use Rattle.scan.specs.Clashes.{Clash, DataAlike, ClashBefore, Clashed};
 ghost use Rattle.scan.specs.Tables.{row_of};
 
 use crate::tables::{Entry, Scan};
 use flash::{Chip, Fault, Look, Place};
 
 impl<C: Chip> Entry<'_, '_, C> {
+    // Whether two records have the same data bytes. By itself, since within `clashes_with` the buffers were cleared for every pair.
+    fn same_data(&self, other: &Entry<'_, '_, C>) -> Result<bool, Fault>
+        ensures { DataAlike (row_of (C.Chip.model self.now.scan.now.chip.now) self.now.row) (row_of (C.Chip.model other.now.scan.now.chip.now) other.now.row) result }
+    {
+        Ok(self.data()? == other.data()?)
+    }
+
     // Whether two records with one serial are unlike.
     fn clashes_with(&self, other: &Entry<'_, '_, C>) -> Result<bool, Fault>
         ensures { Clash (row_of (C.Chip.model self.now.scan.now.chip.now) self.now.row) (row_of (C.Chip.model other.now.scan.now.chip.now) other.now.row) result }
@@ -13,7 +20,7 @@ impl<C: Chip> Entry<'_, '_, C> {
         if self.tag.serial != other.tag.serial {
             return Ok(false);
         }
-        Ok(self.tag != other.tag || self.data()? != other.data()?)
+        Ok(self.tag != other.tag || !self.same_data(other)?)
     }
 
     // Whether the record is unlike an earlier one with its serial.
