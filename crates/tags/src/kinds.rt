@@ -18,8 +18,11 @@ const MARKER: u32 = 0xC0000004;
 pub fn kind_of(tag: &Tag) -> Kind
     ensures { result ≡ kind_by tag.now.first }
 {
+    // As a range pattern of the match, this test makes every search more than twice as slow.
+    if (1..=LAST_NUMBER).contains(&tag.first) {
+        return Kind::Data;
+    }
     match tag.first {
-        1..=LAST_NUMBER => Kind::Data,
         HEADER => Kind::Header,
         CUT_HEADER => Kind::CutHeader,
         MARKER => Kind::Marker,
