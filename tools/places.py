@@ -1,6 +1,8 @@
 """Lists the places in src/ where an older form of the language may stand, a section for each point of docs/DESIGN-PASS.md.
 
-Run at the top of the repository: python3 tools/places.py [FOLDER]. What it prints are candidates; the page says of each what became of it.
+usage: python3 tools/places.py [FOLDER]     at the top of the repository, or for the one in FOLDER
+
+It reads text and knows no types: what it prints are candidates, and the page says what became of them.
 """
 import collections
 import pathlib
