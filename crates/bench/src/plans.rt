@@ -4,7 +4,7 @@ ghost use Rattle.bench.specs.Plans.{bit, outcome};
 use flash::Chunk;
 
 // When the supply fails, and what the failing act leaves. An act is a program or an erase that is not refused.
-#[derive(Clone, Copy, PartialEq, Eq, Debug)]
+#[derive(Clone, Copy, PartialEq, Eq, Default, Debug)]
 pub struct Plan {
     // the act that fails, counted from 1 since the chip was made; 0 means none
     pub fails: u64,

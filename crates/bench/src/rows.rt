@@ -23,7 +23,7 @@ impl BenchChip {
         if !self.on {
             return Err(Fault::Off);
         }
-        if at.block >= self.sizes.blocks || at.chunk >= self.sizes.chunks {
+        if !self.sizes.has(at) {
             return Err(Fault::NoSuchPlace);
         }
         let row = at.block as usize * self.sizes.chunks as usize + at.chunk as usize;

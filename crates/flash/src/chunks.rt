@@ -1,4 +1,4 @@
-ghost use Rattle.std.specs.Prelude.{◌≡◌, ◌*◌};
+ghost use Rattle.std.specs.Prelude.{◌≡◌, ◌*◌, ◌&&◌, nat_lt};
 ghost use Rattle.flash.specs.Chunks.{look_of, tag_in, Whole, WholeChunk};
 
 // The four numbers of a record, 32 bits each.
@@ -65,6 +65,13 @@ impl Sizes {
         ensures { result ≡ self.blocks * self.chunks }
     {
         self.blocks as usize * self.chunks as usize
+    }
+
+    // Whether there is such a place.
+    pub fn has(self, at: Place) -> bool
+        ensures { result ≡ (nat_lt at.block self.blocks && nat_lt at.chunk self.chunks) }
+    {
+        at.block < self.blocks && at.chunk < self.chunks
     }
 }
 

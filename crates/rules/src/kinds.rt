@@ -15,7 +15,7 @@ impl Kind {
     pub fn is_data(self) -> bool
         ensures { result ≡ is_data self }
     {
-        matches!(self, Kind::Data)
+        self == Kind::Data
     }
 
     // A header of either kind.
@@ -28,12 +28,12 @@ impl Kind {
     pub fn is_cut(self) -> bool
         ensures { result ≡ is_cut self }
     {
-        matches!(self, Kind::CutHeader)
+        self == Kind::CutHeader
     }
 
     pub fn is_marker(self) -> bool
         ensures { result ≡ is_marker self }
     {
-        matches!(self, Kind::Marker)
+        self == Kind::Marker
     }
 }
