@@ -1,5 +1,7 @@
-ghost use Rattle.std.specs.Prelude.{◌≡◌, ◌*◌, ◌&&◌, nat_lt};
+ghost use Rattle.std.specs.Prelude.{◌≡◌, ◌*◌, ◌+◌, ◌&&◌, nat_lt};
 ghost use Rattle.flash.specs.Chunks.{look_of, tag_in, Whole, WholeChunk};
+
+use std::ops::Range;
 
 // The four numbers of a record, 32 bits each.
 #[derive(Clone, Copy, PartialEq, Eq, Debug)]
@@ -47,6 +49,14 @@ pub struct Place {
     pub chunk: u32,
 }
 
+impl Place {
+    pub fn new(block: u32, chunk: u32) -> Place
+        ensures { result ≡ record { block = block; chunk = chunk } }
+    {
+        Place { block, chunk }
+    }
+}
+
 impl Look {
     // The four numbers of the record, if there is one.
     pub fn tag(&self) -> Option<Tag>
@@ -72,6 +82,21 @@ impl Sizes {
         ensures { result ≡ (nat_lt at.block self.blocks && nat_lt at.chunk self.chunks) }
     {
         at.block < self.blocks && at.chunk < self.chunks
+    }
+
+    // The row of a place in a table of all chunks, block after block.
+    pub fn row(self, at: Place) -> usize
+        ensures { result ≡ at.block * self.chunks + at.chunk }
+    {
+        at.block as usize * self.chunks as usize + at.chunk as usize
+    }
+
+    // The rows of a block in such a table.
+    pub fn rows_of(self, block: u32) -> Range<usize>
+        ensures { result ≡ record { start = block * self.chunks; end = block * self.chunks + self.chunks } }
+    {
+        let start = self.row(Place::new(block, 0));
+        start..start + self.chunks as usize
     }
 }
 

@@ -14,6 +14,14 @@ pub const LAST_OBJECT: u32 = 511;
 // What headers and markers have their object number above.
 pub const OBJECT_BASE: u32 = 0x1000_0000;
 
+// The first number of each kind but data, whose first number is its chunk number. What the chip holds are numbers, so these
+// are numbers.
+pub const HEADER: u32 = 0x8000_0001;
+
+pub const CUT_HEADER: u32 = 0xC000_0001;
+
+pub const MARKER: u32 = 0xC000_0004;
+
 // How many bytes the longest name has, how many the data of a chunk, and the highest chunk number.
 pub const LONGEST_NAME: usize = 40;
 

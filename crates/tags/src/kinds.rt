@@ -3,14 +3,7 @@ ghost use Rattle.rules.specs.Records.{kind_by, object as object_of};
 ghost use Rattle.tags.specs.Bare.{bare_tag};
 
 use flash::Tag;
-use rules::{Kind, LAST_NUMBER, OBJECT_BASE};
-
-// The first number of each kind but data: the chip's records are numbers, so these stay numbers.
-const HEADER: u32 = 0x80000001;
-
-const CUT_HEADER: u32 = 0xC0000001;
-
-const MARKER: u32 = 0xC0000004;
+use rules::{CUT_HEADER, HEADER, Kind, LAST_NUMBER, MARKER, OBJECT_BASE};
 
 // What a record with this tag is; a data record's first number is its chunk number. A function by name: a From would have to
 // stand in `rules`, whose type Kind is, and would say no more.
