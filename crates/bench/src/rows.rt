@@ -26,7 +26,7 @@ impl BenchChip {
         if !self.sizes.has(at) {
             return Err(Fault::NoSuchPlace);
         }
-        let row = self.sizes.row(at);
+        let row = at.block as usize * self.sizes.chunks as usize + at.chunk as usize;
         let end = row + (self.sizes.chunks - at.chunk) as usize;
         Ok(row..end)
     }
