@@ -1,7 +1,6 @@
 -- What hides the chunks of an object, by chunk number: how the numbers are found, and that they tell which data records are hidden. Assumes nothing.
-use Rattle.std.proofs.Common.{◌≡◌, ℕ, zero, suc, ◌+◌, ◌<◌, ◌≤◌, max, Bool, true, false, cond, eqb, ltb, ◌⊎◌, List, [], ◌∷◌, ◌++◌, length, get_or, set, replicate, Some, None, Option, sym, refl, ap, ◌∙◌, subst, inl, inr, add-one, arith}
-use Rattle.std.proofs.lemmas.List.{get_or-set_same, get_or-set_other, get_or-replicate}
-use Rattle.std.proofs.lemmas.List.Sums.{fold_push}
+use Rattle.std.proofs.Common.{◌≡◌, ℕ, zero, suc, ◌<◌, ◌≤◌, max, Bool, true, false, cond, eqb, ltb, ◌⊎◌, List, [], get_or, replicate, Some, None, Option, sym, refl, ap, ◌∙◌, inl, inr, arith}
+use Rattle.std.proofs.lemmas.List.{get_or-replicate}
 use Rattle.std.specs.List.{filter_map, fold}
 use Rattle.std.proofs.lemmas.Bool.{both_ways, cases_eq, cases_lt, cond-true, cond-false, eqb-true, eq-eqb, ne_eqb, lt-ltb, le-ltb}
 use Rattle.flash.specs.declared.chunks.Tag.{Tag}
@@ -18,7 +17,7 @@ use Rattle.rules.proofs.Lists.{largest-least, largest-most}
 use Rattle.rules.proofs.Views.{Hides, hidden-view, hidden-from}
 use Rattle.tags.specs.Bare.{records}
 use Rattle.tags.proofs.Scans.{largest-tags}
-use Rattle.reading.specs.Hiders.{above_by, serial_at, hider_at, Noted, most_of, CarriedOn}
+use Rattle.reading.specs.Hiders.{above_by, serial_at, hider_at, most_of, CarriedOn}
 
 -- the numbers noted so far, by the tags of the records
 module _ (o : ℕ) where
@@ -31,31 +30,11 @@ module _ (o : ℕ) where
   pub noting-none : Noting [] (replicate 1001 0)
   noting-none k h = get_or-replicate {A = ℕ} 1001 k 0 0 h
 
-  pub noting-more : (ts : List Tag) (t : Tag) (now next : List ℕ) → Noted (λ k. hider_at o k t) now next → Noting ts now → Noting (ts ++ t ∷ []) next
-  noting-more ts t now next e b k h = e k h ∙ ap (λ (n : ℕ). max n (hider_at o k t)) (b k h) ∙ sym (fold_push (λ n s. max n (hider_at o k s)) 0 ts t)
-
 -- the numbers carried on so far
 pub record Carrying (old : List ℕ) (i most : ℕ) (new : List ℕ) : Type 0 where
   pub top : most ≡ most_of old i
   pub done : (k : ℕ) → k < i → get_or new k 0 ≡ most_of old k
   pub left : (k : ℕ) → i ≤ k → get_or new k 0 ≡ get_or old k 0
-
-pub carrying-none : (old : List ℕ) → Carrying old 0 0 old
-carrying-none old = record { top = refl; done = λ k h. absurd (omega (arith, h)); left = λ k h. refl }
-
-pub carrying-more : (old : List ℕ) (i most next put : ℕ) (new : List ℕ) → i < length new → next ≡ max most (get_or new i 0) → put ≡ most → Carrying old i most new → Carrying old (i + 1) next (set new i put)
-carrying-more old i most next put new h e p b =
-    record {
-      top = omega (arith, e, b.top, b.left i (omega arith), ap (most_of old) (add-one i));
-      done = λ k l. elim (cases_eq k i) [
-        | inl d ↦ subst (λ (z : ℕ). get_or (set new i put) z 0 ≡ most_of old z) (sym d) (get_or-set_same new i put 0 h ∙ p ∙ b.top)
-        | inr d ↦ get_or-set_other new i k put 0 d ∙ b.done k (omega (arith, l, d))
-      ];
-      left = λ k l. get_or-set_other new i k put 0 (λ d. omega (arith, l, d)) ∙ b.left k (omega (arith, l));
-    }
-
-pub carrying-all : (old : List ℕ) (i most : ℕ) (new : List ℕ) → 1001 ≤ i → Carrying old i most new → CarriedOn old new
-carrying-all old i most new h b = λ k l. b.done k (omega (arith, l))
 
 -- the largest of the first n
 most-least : (ys : List ℕ) (n b : ℕ) → ((k : ℕ) → k < n → get_or ys k 0 ≤ b) → most_of ys n ≤ b

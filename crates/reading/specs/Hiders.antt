@@ -49,6 +49,6 @@ CarriedOn old new = (k : ℕ) → k < 1001 → slice_index new k ≡ most_of old
 abbrev pub shown_number : List Record → ℕ → Record → ℕ
 shown_number rs o r = cond (object r == o && (is_data (kind_by r.tag.first) && not (hidden rs r))) r.tag.first 0
 
--- the chunk number of a data record of the object o whose serial is not below that of what hides there, or 0
-abbrev pub shown_by : List ℕ → ℕ → Tag → ℕ
-shown_by hiders o t = cond (object (bare_tag t) == o && (is_data (kind_by t.first) && not (nat_lt t.serial (slice_index hiders t.first)))) t.first 0
+-- the chunk number of a data record of the object o whose serial is not below that of what hides there
+abbrev pub shown_by : List ℕ → ℕ → Tag → Option ℕ
+shown_by hiders o t = cond (object (bare_tag t) == o && (is_data (kind_by t.first) && not (nat_lt t.serial (slice_index hiders t.first)))) (Some t.first) None

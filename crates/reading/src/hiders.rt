@@ -59,7 +59,8 @@ impl Hiders {
         }
     }
 
-    // Raises the serial at a chunk number where it is less, if there is such a number.
+    // Raises the serial at a chunk number where it is less, if there is such a number. By index, since a proof knows
+    // no serial after `get_mut`.
     fn raise(&mut self, number: usize, serial: u32)
         ensures object { self.new.object ≡ self.old.object }
         ensures raised { self.new.serials ≡ raised self.old.serials number serial }
@@ -89,14 +90,11 @@ impl Hiders {
             .is_some_and(|serial| tag.serial < *serial)
     }
 
-    // The chunk number of a data record of the object that is not hidden, or 0.
-    pub(crate) fn shown_number(&self, tag: &Tag) -> u32
+    // The chunk number of a data record of the object that is not hidden.
+    pub(crate) fn shown_number(&self, tag: &Tag) -> Option<u32>
         ensures { result ≡ shown_by self.now.serials self.now.object tag.now }
     {
-        if object_of(tag) == self.object && kind_of(tag).is_data() && !self.hide(tag) {
-            tag.first
-        } else {
-            0
-        }
+        let shown = object_of(tag) == self.object && kind_of(tag).is_data() && !self.hide(tag);
+        shown.then_some(tag.first)
     }
 }

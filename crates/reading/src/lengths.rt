@@ -7,7 +7,6 @@ use crate::hiders::Hiders;
 use crate::reading::{chunk, header};
 use flash::Look;
 use rules::CHUNK_BYTES;
-use tags::largest;
 
 // How many bytes a full chunk has.
 const BYTES: u32 = CHUNK_BYTES as u32;
@@ -17,7 +16,10 @@ pub fn highest_chunk(looks: &[Look], object: u32) -> u32
     ensures { result ≡ highest_chunk (records looks.now) object }
 {
     let hiders = Hiders::of(looks, object);
-    largest(looks, |tag| hiders.shown_number(&tag))
+    let tags = looks.iter().filter_map(Look::tag);
+    tags.filter_map(|tag| hiders.shown_number(&tag))
+        .max()
+        .unwrap_or(0)
 }
 
 // How many chunks the file is long.

@@ -1,6 +1,7 @@
 -- Blocks with the data left out: their records, and their loads. Assumes nothing.
 use Rattle.std.proofs.Common.{◌≡◌, ℕ, zero, suc, ◌+◌, ◌*◌, ◌<◌, ◌≤◌, Bool, true, false, not, ◌&&◌, eqb, List, [], ◌∷◌, ◌++◌, map, length, get_or, take, drop, set, sym, refl, ap, ◌∙◌, append_assoc, append-nil, mul-le-mul_right, arith, length-drop, length-take-le, get_or-drop, get_or-take}
-use Rattle.std.proofs.lemmas.List.{length-map, take-map, map-append, map-set, get_or-map, same_lists, take_at, length_push}
+use Rattle.std.proofs.lemmas.List.{length-map, take-map, map-append, map-set, get_or-map, get_or_at, get_or_default, same_lists, take_at, length_push}
+use Rattle.std.proofs.Math.ListN.{get_or-map as get_or-image}
 use Rattle.flash.specs.declared.chunks.Record.{Record}
 use Rattle.flash.specs.declared.chunks.Chunk.{Chunk}
 use Rattle.flash.specs.declared.chunks.Chunk.TheVariants.{Blank, Damaged, Holds}
@@ -41,18 +42,6 @@ standing-bare (b ∷ bs) =
     ∙ ap (λ (z : List Record). map bare (records_of b) ++ z) (standing-bare bs)
     ∙ sym (map-append bare (records_of b) (standing bs))
 
-block-bare : (bs : List (List Chunk)) (b : ℕ) → get_or (bare_blocks bs) b [] ≡ map bare_chunk (get_or bs b [])
-block-bare [] zero = refl
-block-bare [] (suc b) = refl
-block-bare (x ∷ bs) zero = refl
-block-bare (x ∷ bs) (suc b) = block-bare bs b
-
-chunk-at-bare : (cs : List Chunk) (c : ℕ) → get_or (map bare_chunk cs) c Blank ≡ bare_chunk (get_or cs c Blank)
-chunk-at-bare [] zero = refl
-chunk-at-bare [] (suc c) = refl
-chunk-at-bare (x ∷ cs) zero = refl
-chunk-at-bare (x ∷ cs) (suc c) = chunk-at-bare cs c
-
 makes-alike : (all others : List Record) (r : Record) → makes_load (map bare all) (map bare others) (bare r) ≡ makes_load all others r
 unfolding makes_load
 makes-alike all others r = (λ i. wants-bare all r i && not (any-map bare (λ s. eqb s.tag.serial r.tag.serial) others i))
@@ -70,7 +59,7 @@ module _ (bs : List (List Chunk)) (b : ℕ) where
   pub list-bare : load_list (bare_blocks bs) b ≡ map bare (load_list bs b)
   unfolding load_list
   list-bare =
-      ap (λ (z : List Record). keep (makes_load (standing (bare_blocks bs)) (standing (set (bare_blocks bs) b []))) (once z)) (ap records_of (block-bare bs b) ∙ records-bare (get_or bs b []))
+      ap (λ (z : List Record). keep (makes_load (standing (bare_blocks bs)) (standing (set (bare_blocks bs) b []))) (once z)) (ap records_of (get_or-image (map bare_chunk) bs b []) ∙ records-bare (get_or bs b []))
       ∙ ap (keep (makes_load (standing (bare_blocks bs)) (standing (set (bare_blocks bs) b [])))) (once-map (records_of (get_or bs b [])))
       ∙ keep-map bare (makes_load (standing (bare_blocks bs)) (standing (set (bare_blocks bs) b []))) (once (records_of (get_or bs b [])))
       ∙ ap (map bare) (keep-alike (λ r. makes_load (standing (bare_blocks bs)) (standing (set (bare_blocks bs) b [])) (bare r)) Makes makes-bare (once (records_of (get_or bs b []))))
@@ -88,11 +77,11 @@ module _ (bs : List (List Chunk)) (b : ℕ) where
   row-bare : (c : ℕ) → load_at (bare_blocks bs) b c ≡ load_at bs b c
   unfolding load_at
   row-bare c =
-      ap (holds_one (BareRow c)) (ap (λ (z : List Chunk). get_or z c Blank) (block-bare bs b) ∙ chunk-at-bare (get_or bs b []) c)
+      ap (holds_one (BareRow c)) (ap (λ (z : List Chunk). get_or z c Blank) (get_or-image (map bare_chunk) bs b []) ∙ get_or-image bare_chunk (get_or bs b []) c Blank)
       ∙ at (get_or (get_or bs b []) c Blank)
     where
       seen : records_of (take c (get_or (bare_blocks bs) b [])) ≡ map bare (records_of (take c (get_or bs b [])))
-      seen = ap (λ (z : List Chunk). records_of (take c z)) (block-bare bs b) ∙ ap records_of (take-map bare_chunk c (get_or bs b [])) ∙ records-bare (take c (get_or bs b []))
+      seen = ap (λ (z : List Chunk). records_of (take c z)) (get_or-image (map bare_chunk) bs b []) ∙ ap records_of (take-map bare_chunk c (get_or bs b [])) ∙ records-bare (take c (get_or bs b []))
 
       at : (x : Chunk) → holds_one (BareRow c) (bare_chunk x) ≡ holds_one (λ r. Makes r && fresh (records_of (take c (get_or bs b []))) r) x
       at Blank = refl
@@ -103,10 +92,6 @@ pub blocks-alike : (bs : List (List Chunk)) → BlocksAlike bs
 blocks-alike bs = record { records_same = looks-bare; standing_same = standing-bare bs; list_same = list-bare bs; load_same = load-bare bs; row_same = row-bare bs }
 
 -- the load list, chunk by chunk
-get_d_at : (seen : List Chunk) (x : Chunk) (rest : List Chunk) → get_or (seen ++ x ∷ rest) (length seen) Blank ≡ x
-get_d_at [] x rest = refl
-get_d_at (y ∷ seen) x rest = get_d_at seen x rest
-
 module _ (bs : List (List Chunk)) (b : ℕ) where
   keep-if : (t : Record → Bool) (f : Bool) (r : Record) (rs : List Record) → keep t (cons_if f r rs) ≡ chosen_if (t r && f) (Holds r) (keep t rs)
   keep-if t true r rs = at (t r)
@@ -126,7 +111,7 @@ module _ (bs : List (List Chunk)) (b : ℕ) where
   row_is seen x rest e =
       ap (λ (z : List Chunk). holds_one (λ r. Makes bs b r && fresh (records_of (take (length seen) z)) r) (get_or z (length seen) Blank)) e
       ∙ ap (λ (z : List Chunk). holds_one (λ r. Makes bs b r && fresh (records_of z) r) (get_or (seen ++ x ∷ rest) (length seen) Blank)) (take_at seen (x ∷ rest) (length seen) refl)
-      ∙ ap (holds_one (λ r. Makes bs b r && fresh (records_of seen) r)) (get_d_at seen x rest)
+      ∙ ap (holds_one (λ r. Makes bs b r && fresh (records_of seen) r)) (get_or_at seen x rest Blank (length seen) refl)
 
   from_row : (seen rest : List Chunk) (n : ℕ) → n ≡ length seen → get_or bs b [] ≡ seen ++ rest → keep (Makes bs b) (firsts (records_of seen) (records_of rest)) ≡ chosen (load_at bs b) n rest
   from_row seen [] n l e = refl
@@ -184,15 +169,10 @@ module _ (n p : ℕ) (bs : List (List Chunk)) (looks : List Look) (m : Mirrors n
       same_lists _ _ (blocks_long p n (bares looks) ∙ sym (length-map bs (map bare_chunk) ∙ m.blocks_long))
       (λ b d h.
       let l : b < n = omega (arith, h, blocks_long p n (bares looks)) in
-      default (blocks_of p n (bares looks)) b d [] h
+      get_or_default (blocks_of p n (bares looks)) b d [] h
       ∙ block_at p n b (bares looks) l
       ∙ one_block b l
       ∙ sym (get_or-map (map bare_chunk) bs b [] d (omega (arith, m.blocks_long))))
-    where
-      default : {A : Type 0} (xs : List A) (k : ℕ) (d e : A) → k < length xs → get_or xs k d ≡ get_or xs k e
-      default [] k d e h = absurd (omega arith)
-      default (x ∷ xs) zero d e h = refl
-      default (x ∷ xs) (suc k) d e h = default xs k d e (omega (arith, h))
 
 pub table-mirrors : TableMirrors
 table-mirrors n p bs looks m =

@@ -1,6 +1,7 @@
 -- The load of a block, by the rows of the table. Assumes nothing.
-use Rattle.std.proofs.Common.{◌≡◌, ℕ, zero, suc, ◌+◌, ◌*◌, ◌<◌, ◌≤◌, Bool, false, not, ◌&&◌, eqb, List, [], ◌∷◌, ◌++◌, length, get_or, take, drop, set, Some, None, Option, MatchOption, sym, refl, ap, ◌∙◌, mul-le-mul_right, arith, length-drop, length-take-le}
+use Rattle.std.proofs.Common.{◌≡◌, ℕ, suc, ◌+◌, ◌*◌, ◌<◌, ◌≤◌, Bool, false, not, ◌&&◌, eqb, List, [], ◌++◌, length, get_or, take, drop, set, Some, None, Option, MatchOption, sym, refl, ap, ◌∙◌, mul-le-mul_right, arith, length-drop, length-take-le}
 use Rattle.std.proofs.lemmas.List.{length-map, take-map, drop-map}
+use Rattle.std.proofs.Math.ListN.{get_or-map as get_or-image}
 use Rattle.flash.specs.declared.chunks.Record.{Record}
 use Rattle.flash.specs.declared.chunks.Chunk.{Chunk}
 use Rattle.flash.specs.declared.chunks.Chunk.TheVariants.{Blank as blank_c, Damaged as damaged_c, Holds as holds_c}
@@ -27,15 +28,6 @@ holds-alike : (t u : Record → Bool) → ((r : Record) → t r ≡ u r) → (x 
 holds-alike t u e blank_c = refl
 holds-alike t u e damaged_c = refl
 holds-alike t u e (holds_c r) = e r
-
-get_or-bares : (xs : List Look) (c : ℕ) → bare_of (get_or xs c Blank) ≡ get_or (bares xs) c blank_c
-get_or-bares [] c = at c
-  where
-    at : (c : ℕ) → bare_of (get_or [] c Blank) ≡ get_or {A = Chunk} [] c blank_c
-    at zero = refl
-    at (suc c) = refl
-get_or-bares (x ∷ xs) zero = refl
-get_or-bares (x ∷ xs) (suc c) = get_or-bares xs c
 
 module _ (p b n : ℕ) (looks : List Look) (long : length looks ≡ n * p) (in' : b < n) where
   pub block_fits : b * p + p ≤ length looks
@@ -85,7 +77,7 @@ module _ (p b n : ℕ) (looks : List Look) (long : length looks ≡ n * p) (in' 
     row_by : (c : ℕ) → first_of Loads (records (take c s.within.now)) (get_or s.within.now c Blank) ≡ load_at blocks b c
     unfolding load_at
     row_by c =
-        ap (holds_one (λ (r : Record). Loads r && fresh (records (take c s.within.now)) r)) (get_or-bares s.within.now c ∙ ap (λ (z : List Chunk). get_or z c blank_c) within_same)
+        ap (holds_one (λ (r : Record). Loads r && fresh (records (take c s.within.now)) r)) (sym (get_or-image bare_of s.within.now c Blank) ∙ ap (λ (z : List Chunk). get_or z c blank_c) within_same)
         ∙ holds-alike _ _ (λ r. ap (λ (a : Bool). a && fresh (records (take c s.within.now)) r) (makes-is r) ∙ ap (λ (z : List Record). makes_load (standing blocks) (standing (set blocks b [])) r && fresh z r) seen) (get_or (get_or blocks b []) c blank_c)
       where
         seen : records (take c s.within.now) ≡ records_of (take c (get_or blocks b []))

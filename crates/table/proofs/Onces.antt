@@ -1,6 +1,7 @@
 -- Each serial once, at its first place: by going through the records with those that came before. Assumes nothing.
 use Rattle.std.proofs.Common.{◌≡◌, ℕ, ◌+◌, Bool, true, false, cond, not, ◌&&◌, ◌||◌, eqb, List, [], ◌∷◌, ◌++◌, length, take, sym, refl, ap, ◌∙◌, append_assoc, append-nil, arith}
-use Rattle.std.proofs.lemmas.List.{take_at, length_push}
+use Rattle.std.proofs.Math.Bool.{or_assoc}
+use Rattle.std.proofs.lemmas.List.{map-append, take_at, length_push}
 use Rattle.std.specs.List.{filter, enumerate_from}
 use Rattle.std.proofs.lemmas.Bool.Decides.{nat_tests}
 use Rattle.flash.specs.declared.chunks.Record.{Record}
@@ -8,9 +9,11 @@ use Rattle.flash.specs.declared.chunks.Look.{Look}
 use Rattle.flash.specs.declared.chunks.Look.TheVariants.{Blank, Damaged, Record as record_l}
 use Rattle.rules.specs.Lists.{any, keep, cons_if}
 use Rattle.rules.specs.Reading.{once}
-use Rattle.tags.specs.Bare.{bare_tag, records}
+use Rattle.flash.specs.Blocks.{records_of}
+use Rattle.tags.specs.Bare.{bare_of, bare_tag, bares, records}
 use Rattle.table.specs.Loads.{fresh}
 use Rattle.table.specs.Steps.{first_of}
+use Rattle.table.proofs.Rows.{records_of-append}
 
 -- filters
 module _ {A : Type 0} where
@@ -32,11 +35,7 @@ module _ {A : Type 0} where
 
   pub any_append : (t : A → Bool) (xs ys : List A) → any t (xs ++ ys) ≡ (any t xs || any t ys)
   any_append t [] ys = refl
-  any_append t (x ∷ xs) ys = ap (λ (b : Bool). t x || b) (any_append t xs ys) ∙ or_assoc (t x) (any t xs) (any t ys)
-    where
-      or_assoc : (a b c : Bool) → (a || (b || c)) ≡ ((a || b) || c)
-      or_assoc true b c = refl
-      or_assoc false b c = refl
+  any_append t (x ∷ xs) ys = ap (λ (b : Bool). t x || b) (any_append t xs ys) ∙ sym (or_assoc (t x) (any t xs) (any t ys))
 
   pub length-cons_if : (t : A → Bool) (b : Bool) (x : A) (xs : List A) → length (keep t (cons_if b x xs)) ≡ cond (t x && b) 1 0 + length (keep t xs)
   length-cons_if t true x xs = at (t x)
@@ -83,10 +82,7 @@ once-firsts rs = sym (keep_all (once rs)) ∙ once-seen [] rs
 
 -- the records of looks, one after the other
 pub records-append : (xs ys : List Look) → records (xs ++ ys) ≡ records xs ++ records ys
-records-append [] ys = refl
-records-append (Blank ∷ xs) ys = records-append xs ys
-records-append (Damaged ∷ xs) ys = records-append xs ys
-records-append (record_l t ∷ xs) ys = ap (λ (z : List Record). bare_tag t ∷ z) (records-append xs ys)
+records-append xs ys = ap records_of (map-append bare_of xs ys) ∙ records_of-append (bares xs) (bares ys)
 
 module _ (p : Record → Bool) where
   abbrev pub Onces : List Look → List Look → ℕ

@@ -1,29 +1,10 @@
--- Row b × p + c of a flat table is chunk c of block b; and what stands before and after a block. Assumes nothing.
-use Rattle.std.proofs.Common.{◌≡◌, ℕ, zero, suc, ◌+◌, ◌*◌, ◌<◌, ◌≤◌, List, [], ◌∷◌, ◌++◌, length, get_or, take, drop, set, sym, refl, ap, ◌∙◌, append_assoc, arith, length-drop, take-append-drop, get_or-drop, get_or-take, drop-drop, drop-set-lt, take-add}
-use lib.Seq.{take-set-le, take-set-lt, drop-set-add}
+-- The blocks of a flat table; and what stands before and after a block. Assumes nothing.
+use Rattle.std.proofs.Common.{◌≡◌, ℕ, zero, suc, ◌+◌, ◌*◌, ◌<◌, ◌≤◌, List, [], ◌∷◌, ◌++◌, length, get_or, take, drop, set, sym, refl, ap, ◌∙◌, append_assoc, arith, length-drop, take-append-drop, drop-drop, take-add}
 use Rattle.flash.specs.declared.chunks.Record.{Record}
 use Rattle.flash.specs.declared.chunks.Chunk.{Chunk}
 use Rattle.flash.specs.declared.chunks.Chunk.TheVariants.{Blank, Damaged, Holds}
 use Rattle.flash.specs.Blocks.{records_of, standing}
 use Rattle.table.specs.Rows.{blocks_of}
-
-module _ {A : Type 0} (p c : ℕ) (in' : c < p) where
-  pub row_at : (n b : ℕ) (rows : List A) (d : A) → b < n → get_or (get_or (blocks_of p n rows) b []) c d ≡ get_or rows (b * p + c) d
-  row_at zero b rows d l = absurd (omega arith)
-  row_at (suc n) zero rows d l =
-      get_or-take p rows c d in' ∙ ap (λ (i : ℕ). get_or rows i d) (let e : c ≡ 0 * p + c = omega arith in e)
-  row_at (suc n) (suc b) rows d l =
-      row_at n b (drop p rows) d (omega arith) ∙ get_or-drop p rows (b * p + c) d ∙ ap (λ (i : ℕ). get_or rows i d) (let e : p + (b * p + c) ≡ suc b * p + c = omega arith in e)
-
-  pub row-set : (n b : ℕ) (rows : List A) (y : A) → b < n → blocks_of p n (set rows (b * p + c) y) ≡ set (blocks_of p n rows) b (set (get_or (blocks_of p n rows) b []) c y)
-  row-set zero b rows y l = absurd (omega arith)
-  row-set (suc n) zero rows y l =
-      ap (λ (i : ℕ). blocks_of p (suc n) (set rows i y)) (let e : 0 * p + c ≡ c = omega arith in e)
-      ∙ (λ i. take-set-lt p rows c y in' i ∷ blocks_of p n (drop-set-lt p rows c y in' i))
-  row-set (suc n) (suc b) rows y l =
-      ap (λ (i : ℕ). blocks_of p (suc n) (set rows i y)) (let e : suc b * p + c ≡ p + (b * p + c) = omega arith in e)
-      ∙ (λ i. take-set-le p rows (p + (b * p + c)) y (omega arith) i ∷ blocks_of p n (drop-set-add p rows (b * p + c) y i))
-      ∙ ap {B = List (List A)} (λ z. take p rows ∷ z) (row-set n b (drop p rows) y (omega arith))
 
 -- block b is rows b × p and on
 pub block_at : {A : Type 0} (p n b : ℕ) (rows : List A) → b < n → get_or (blocks_of p n rows) b [] ≡ take p (drop (b * p) rows)

@@ -45,7 +45,8 @@ impl BlockOf<'_> {
     }
 }
 
-// A block of the table, if the table is long enough.
+// A block of the table, if the table is long enough. The looks, the chunks a block and the block meet in this file alone:
+// with a struct for them a caller would write `Table::new(looks, chunks).load(block)` for `load(looks, chunks, block)`.
 fn block_of(looks: &[Look], chunks: usize, block: usize) -> Option<BlockOf<'_>>
     ensures { CutFrom looks.now chunks block result }
 {

@@ -23,7 +23,8 @@ pub fn kind_of(tag: &Tag) -> Kind
     }
 }
 
-// The object that a record with this tag belongs to.
+// The object that a record with this tag belongs to. One of no kind belongs to 0, as the rules' word has it, and so may a
+// data record: with None for the first, `same_object` would tell apart two that the rules take as one.
 #[tactic(auto, unfolding(rules::specs::Records::object, rules::specs::Records::kind))]
 pub fn object_of(tag: &Tag) -> u32
     ensures { result ≡ object_of (bare_tag tag.now) }
