@@ -17,7 +17,7 @@ use Rattle.table.specs.Laws.{bare_blocks, BlocksAlike, chosen, chosen_if, LoadBy
 use Rattle.table.specs.Loads.{fresh, holds_one, load_at}
 use Rattle.table.specs.Rows.{blocks_of}
 use Rattle.table.proofs.Bares.{any-map, keep-map, once-map, wants-bare}
-use Rattle.table.proofs.Onces.{keep-alike, firsts, once-firsts}
+use Rattle.table.proofs.Onces.{keep-alike, keep-cons_if, firsts, once-firsts}
 use Rattle.table.proofs.Rows.{block_at, standing-rows, records_of-append}
 
 abbrev bare_chunk : Chunk → Chunk
@@ -94,14 +94,9 @@ blocks-alike bs = record { records_same = looks-bare; standing_same = standing-b
 -- the load list, chunk by chunk
 module _ (bs : List (List Chunk)) (b : ℕ) where
   keep-if : (t : Record → Bool) (f : Bool) (r : Record) (rs : List Record) → keep t (cons_if f r rs) ≡ chosen_if (t r && f) (Holds r) (keep t rs)
-  keep-if t true r rs = at (t r)
+  keep-if t f r rs = keep-cons_if t f r rs ∙ at (t r && f)
     where
-      at : (x : Bool) → cons_if x r (keep t rs) ≡ chosen_if (x && true) (Holds r) (keep t rs)
-      at true = refl
-      at false = refl
-  keep-if t false r rs = at (t r)
-    where
-      at : (x : Bool) → keep t rs ≡ chosen_if (x && false) (Holds r) (keep t rs)
+      at : (b : Bool) → cons_if b r (keep t rs) ≡ chosen_if b (Holds r) (keep t rs)
       at true = refl
       at false = refl
 

@@ -33,13 +33,13 @@ largest-alike : {A : Type 0} (f g : A → ℕ) → ((x : A) → f x ≡ g x) →
 largest-alike f g e [] = refl
 largest-alike f g e (x ∷ xs) = ap (λ (z : ℕ). max z (largest f xs)) (e x) ∙ ap (max (g x)) (largest-alike f g e xs)
 
+cond-ap : {A B : Type 0} (f : A → B) (b : Bool) (x y : A) → cond b (f x) (f y) ≡ f (cond b x y)
+cond-ap f true x y = refl
+cond-ap f false x y = refl
+
 newer-bare : (b : Bool) (r : Record) (m : Option Record) → newer_if b (bare r) (option_map bare m) ≡ option_map bare (newer_if b r m)
 newer-bare true r None = refl
-newer-bare true r (Some s) = at (ltb r.tag.serial s.tag.serial)
-  where
-    at : (c : Bool) → Some (cond c (bare s) (bare r)) ≡ Some (bare (cond c s r))
-    at true = refl
-    at false = refl
+newer-bare true r (Some s) = ap Some (cond-ap bare (ltb r.tag.serial s.tag.serial) s r)
 newer-bare false r m = refl
 
 pub newest-map : (t : Record → Bool) (rs : List Record) → newest t (map bare rs) ≡ option_map bare (newest (λ r. t (bare r)) rs)
@@ -60,11 +60,7 @@ module _ (rs : List Record) where
   header-only : (m : Option Record) → header_only (option_map bare m) ≡ option_map bare (header_only m)
   unfolding kind
   header-only None = refl
-  header-only (Some h) = at (is_header (kind h))
-    where
-      at : (b : Bool) → cond b (Some (bare h)) None ≡ option_map bare (cond b (Some h) None)
-      at true = refl
-      at false = refl
+  header-only (Some h) = cond-ap (option_map bare) (is_header (kind h)) (Some h) None
 
   pub header-bare : (o : ℕ) → header (map bare rs) o ≡ option_map bare (header rs o)
   unfolding header head_of object kind
@@ -80,11 +76,7 @@ module _ (rs : List Record) where
 
   unhidden-bare : (m : Option Record) → unhidden (map bare rs) (option_map bare m) ≡ option_map bare (unhidden rs m)
   unhidden-bare None = refl
-  unhidden-bare (Some d) = ap (λ (b : Bool). cond b None (Some (bare d))) (hidden-bare d) ∙ at (hidden rs d)
-    where
-      at : (b : Bool) → cond b None (Some (bare d)) ≡ option_map bare (cond b None (Some d))
-      at true = refl
-      at false = refl
+  unhidden-bare (Some d) = ap (λ (b : Bool). cond b None (Some (bare d))) (hidden-bare d) ∙ cond-ap (option_map bare) (hidden rs d) None (Some d)
 
   pub chunk-bare : (o j : ℕ) → chunk (map bare rs) o j ≡ option_map bare (chunk rs o j)
   unfolding chunk data_of object kind

@@ -1,6 +1,6 @@
 -- Each serial once, at its first place: by going through the records with those that came before. Assumes nothing.
 use Rattle.std.proofs.Common.{◌≡◌, ℕ, ◌+◌, Bool, true, false, cond, not, ◌&&◌, ◌||◌, eqb, List, [], ◌∷◌, ◌++◌, length, take, sym, refl, ap, ◌∙◌, append_assoc, append-nil, arith}
-use Rattle.std.proofs.Math.Bool.{or_assoc}
+use Rattle.std.proofs.Math.Bool.{and_comm, or_assoc}
 use Rattle.std.proofs.lemmas.List.{map-append, take_at, length_push}
 use Rattle.std.specs.List.{filter, enumerate_from}
 use Rattle.std.proofs.lemmas.Bool.Decides.{nat_tests}
@@ -25,29 +25,21 @@ module _ {A : Type 0} where
   keep-alike t u e [] = refl
   keep-alike t u e (x ∷ xs) = ap (λ (b : Bool). cons_if b x (keep t xs)) (e x) ∙ ap (cons_if (u x) x) (keep-alike t u e xs)
 
-  pub keep-keep : (t u : A → Bool) (xs : List A) → keep t (keep u xs) ≡ keep (λ x. u x && t x) xs
+  pub keep-cons_if : (t : A → Bool) (b : Bool) (x : A) (xs : List A) → keep t (cons_if b x xs) ≡ cons_if (t x && b) x (keep t xs)
+  keep-cons_if t true x xs = ap (λ (c : Bool). cons_if c x (keep t xs)) (and_comm true (t x))
+  keep-cons_if t false x xs = ap (λ (c : Bool). cons_if c x (keep t xs)) (and_comm false (t x))
+
+  pub keep-keep : (t u : A → Bool) (xs : List A) → keep t (keep u xs) ≡ keep (λ x. t x && u x) xs
   keep-keep t u [] = refl
-  keep-keep t u (x ∷ xs) = at (u x) (keep-keep t u xs)
-    where
-      at : (b : Bool) → keep t (keep u xs) ≡ keep (λ y. u y && t y) xs → keep t (cons_if b x (keep u xs)) ≡ cons_if (b && t x) x (keep (λ y. u y && t y) xs)
-      at true ih = ap (cons_if (t x) x) ih
-      at false ih = ih
+  keep-keep t u (x ∷ xs) = keep-cons_if t (u x) x (keep u xs) ∙ ap (cons_if (t x && u x) x) (keep-keep t u xs)
 
   pub any_append : (t : A → Bool) (xs ys : List A) → any t (xs ++ ys) ≡ (any t xs || any t ys)
   any_append t [] ys = refl
   any_append t (x ∷ xs) ys = ap (λ (b : Bool). t x || b) (any_append t xs ys) ∙ sym (or_assoc (t x) (any t xs) (any t ys))
 
-  pub length-cons_if : (t : A → Bool) (b : Bool) (x : A) (xs : List A) → length (keep t (cons_if b x xs)) ≡ cond (t x && b) 1 0 + length (keep t xs)
-  length-cons_if t true x xs = at (t x)
-    where
-      at : (b : Bool) → length (cons_if b x (keep t xs)) ≡ cond (b && true) 1 0 + length (keep t xs)
-      at true = omega arith
-      at false = omega arith
-  length-cons_if t false x xs = at (t x)
-    where
-      at : (b : Bool) → length (keep t xs) ≡ cond (b && false) 1 0 + length (keep t xs)
-      at true = omega arith
-      at false = omega arith
+  length-cons_if : (b : Bool) (x : A) (xs : List A) → length (cons_if b x xs) ≡ cond b 1 0 + length xs
+  length-cons_if true x xs = omega arith
+  length-cons_if false x xs = omega arith
 
 -- the records whose serials are new, one after the other
 abbrev pub firsts : List Record → List Record → List Record
@@ -57,13 +49,13 @@ firsts seen (r ∷ rs) = cons_if (fresh seen r) r (firsts (seen ++ r ∷ []) rs)
 eqb-turn : (a b : ℕ) → eqb a b ≡ eqb b a
 eqb-turn a b = grind (arith, nat_tests)
 
-fresh-more : (seen : List Record) (r s : Record) → (not (eqb s.tag.serial r.tag.serial) && fresh seen s) ≡ fresh (seen ++ r ∷ []) s
+fresh-more : (seen : List Record) (r s : Record) → (fresh seen s && not (eqb s.tag.serial r.tag.serial)) ≡ fresh (seen ++ r ∷ []) s
 fresh-more seen r s =
-    ap (λ (b : Bool). not b && fresh seen s) (eqb-turn s.tag.serial r.tag.serial)
+    ap (λ (b : Bool). fresh seen s && not b) (eqb-turn s.tag.serial r.tag.serial)
     ∙ at (any (λ q. eqb q.tag.serial s.tag.serial) seen) (eqb r.tag.serial s.tag.serial)
     ∙ sym (ap not (any_append (λ q. eqb q.tag.serial s.tag.serial) seen (r ∷ [])))
   where
-    at : (a b : Bool) → (not b && not a) ≡ not (a || (b || false))
+    at : (a b : Bool) → (not a && not b) ≡ not (a || (b || false))
     at true true = refl
     at true false = refl
     at false true = refl
@@ -74,7 +66,7 @@ once-seen seen [] = refl
 once-seen seen (r ∷ rs) =
     ap (cons_if (fresh seen r) r)
     (keep-keep (fresh seen) (λ s. not (eqb s.tag.serial r.tag.serial)) (once rs)
-    ∙ keep-alike (λ s. not (eqb s.tag.serial r.tag.serial) && fresh seen s) (fresh (seen ++ r ∷ [])) (fresh-more seen r) (once rs)
+    ∙ keep-alike (λ s. fresh seen s && not (eqb s.tag.serial r.tag.serial)) (fresh (seen ++ r ∷ [])) (fresh-more seen r) (once rs)
     ∙ once-seen (seen ++ r ∷ []) rs)
 
 pub once-firsts : (rs : List Record) → once rs ≡ firsts [] rs
@@ -101,7 +93,8 @@ module _ (p : Record → Bool) where
   onces-cons seen Blank xs = none seen Blank xs refl
   onces-cons seen Damaged xs = none seen Damaged xs refl
   onces-cons seen (record_l t) xs =
-      length-cons_if p (fresh (records seen) (bare_tag t)) (bare_tag t) (firsts (records seen ++ bare_tag t ∷ []) (records xs))
+      ap length (keep-cons_if p (fresh (records seen) (bare_tag t)) (bare_tag t) (firsts (records seen ++ bare_tag t ∷ []) (records xs)))
+      ∙ length-cons_if (first_of p (records seen) (record_l t)) (bare_tag t) (keep p (firsts (records seen ++ bare_tag t ∷ []) (records xs)))
       ∙ ap (λ (z : List Record). cond (first_of p (records seen) (record_l t)) 1 0 + length (keep p (firsts z (records xs)))) (sym (records-append seen (record_l t ∷ [])))
 
   -- so they are as many as the places whose looks tell of a first one
