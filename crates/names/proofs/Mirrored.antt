@@ -7,8 +7,8 @@ use Rattle.rules.specs.Calls.{up_from, objects, find_in, find}
 use Rattle.rules.specs.Lists.{within, same_bytes}
 use Rattle.rules.specs.Mounting.{shares_name, two_named}
 use Rattle.rules.specs.Reading.{File, Files, any_up, any_object, named, name_taken}
-use Rattle.names.specs.Names.{Entries, name_at, Empty, Noted, Lowest, Taken, name_if, Mirrors}
-use Rattle.names.proofs.Taken.{taken-from}
+use Rattle.names.specs.Names.{Entries, name_at, Empty, Noted, Lowest, Taken, Alike, name_if, Mirrors}
+use Rattle.names.proofs.Taken.{taken-from, alike-from}
 
 -- a test over all objects
 object-decides : (t : ℕ → Bool) (P : ℕ → Type 0) → ((o : ℕ) → Decides (t o) (P o)) → Decides (any_object t) ((i : ℕ) × (i < 255) × P (257 + i))
@@ -52,28 +52,27 @@ module _ (es : Entries) (fs : Files) (m : Mirrors es fs) where
   find-mirrored name r h = found name 255 257 r refl (omega arith) h
 
   -- a name taken
-  taken-decides : (o : ℕ) (name : List ℕ) → Decides (name_taken fs o name) ((i : ℕ) × (i < 255) × (257 + i ≢ o) × (name_at es (257 + i) ≡ Some name))
+  taken-decides : (o : ℕ) (name : List ℕ) → Decides (name_taken fs o name) (Taken es o name)
   unfolding name_taken
   taken-decides o name =
-      Decides-like _ (λ x. (x.0, x.1, x.2.0, file-at x.0 x.1 ∙ x.2.1)) (λ x. (x.0, x.1, (x.2, sym (file-at x.0 x.1) ∙ x.3)))
-      (object-decides _ _ (λ k. Decides-and _ _ (Decides-not _ (Decides-eqb k o)) (named-decides name (fs k))))
+      taken-from es _ o name (Decides-like _ (λ x. (x.0, x.1, x.2.0, file-at x.0 x.1 ∙ x.2.1)) (λ x. (x.0, x.1, (x.2, sym (file-at x.0 x.1) ∙ x.3)))
+      (object-decides _ _ (λ k. Decides-and _ _ (Decides-not _ (Decides-eqb k o)) (named-decides name (fs k)))))
 
-  pub taken-mirrored : (r : Bool) (o : ℕ) (name : List ℕ) → Decides r ((i : ℕ) × (i < 255) × (257 + i ≢ o) × (name_at es (257 + i) ≡ Some name)) → r ≡ name_taken fs o name
+  pub taken-mirrored : (r : Bool) (o : ℕ) (name : List ℕ) → Decides r (Taken es o name) → r ≡ name_taken fs o name
   taken-mirrored r o name d = same_from_decides r _ d (taken-decides o name)
 
   -- two files of one name
   shares-decides : (o : ℕ) (f : Option File) → Decides (shares_name fs o f) ((name : List ℕ) × (name_if f ≡ Some name) × Taken es o name)
   shares-decides o None = (λ e. cc, λ x. let e = x.1 in cc)
   shares-decides o (Some f) =
-      Decides-like _ (λ t. (f.name, refl, t)) (λ x. subst (Taken es o) (let e = x.1 in let q : x.0 ≡ f.name = cc in q) x.2)
-      (taken-from es _ o f.name (taken-decides o f.name))
+      Decides-like _ (λ t. (f.name, refl, t)) (λ x. subst (Taken es o) (let e = x.1 in let q : x.0 ≡ f.name = cc in q) x.2) (taken-decides o f.name)
 
-  pub alike-mirrored : (r : Bool) → Decides r ((i : ℕ) × (i < 255) × ((name : List ℕ) × (name_at es (257 + i) ≡ Some name) × Taken es (257 + i) name)) → r ≡ two_named fs
+  pub alike-mirrored : (r : Bool) → Decides r (Alike es) → r ≡ two_named fs
   unfolding two_named
   alike-mirrored r d =
-      same_from_decides r _ d
+      same_from_decides r _ d (alike-from es _
       (Decides-like _ (λ x. (x.0, x.1, (x.2.0, file-at x.0 x.1 ∙ x.2.1, x.2.2))) (λ x. (x.0, x.1, (x.2.0, sym (file-at x.0 x.1) ∙ x.2.1, x.2.2)))
-      (object-decides _ _ (λ o. shares-decides o (fs o))))
+      (object-decides _ _ (λ o. shares-decides o (fs o)))))
 
 -- a table that follows the files: it starts with none, and one object's name changes in both
 pub empty-mirrors : (es : Entries) (fs : Files) → Empty es → ((o : ℕ) → 257 ≤ o → o ≤ 511 → fs o ≡ None) → Mirrors es fs

@@ -1,7 +1,7 @@
 #![tactic(auto, unfolding(crate::specs::Names::name_at))]
 
-ghost use Rattle.std.specs.Prelude.{◌≡◌, ◌≢◌, ℕ, ◌+◌, ◌<◌, List, [], Decides};
-ghost use Rattle.std.specs.Option.{option_map, unwrap_or};
+ghost use Rattle.std.specs.Prelude.{◌≡◌, ◌≢◌, ℕ, ◌+◌, ◌<◌, List, Decides};
+ghost use Rattle.std.specs.Option.{option_map};
 ghost use Rattle.rules.specs.Calls.{find};
 ghost use Rattle.rules.specs.Lists.{is_there};
 ghost use Rattle.rules.specs.Mounting.{two_named};
@@ -26,27 +26,17 @@ impl Names {
         self.get(object).is_some()
     }
 
-    // The name of an object, empty where it has none.
-    pub fn name(&self, object: u32) -> &[u8]
-        ensures { result.now ≡ unwrap_or (name_at (entries_of self.now) object) [] }
+    // The name of an object, if it has one.
+    pub fn name(&self, object: u32) -> Option<&[u8]>
+        ensures { option_map (λ x. x.now) result ≡ name_at (entries_of self.now) object }
     {
-        match self.get(object) {
-            Some(name) => name.as_slice(),
-            None => &[],
-        }
+        self.get(object).map(Name::as_slice)
     }
 
     // The lowest object that has the name.
     pub fn find(&self, name: &[u8]) -> Option<u32>
         ensures lowest { Lowest (entries_of self.now) name.now 257 result }
         ensures files { (fs : Files) → Mirrors (entries_of self.now) fs → result ≡ find fs name.now }
-    {
-        self.lowest(name)
-    }
-
-    // The same, by the places of the entries.
-    fn lowest(&self, name: &[u8]) -> Option<u32>
-        ensures { Lowest (entries_of self.now) name.now 257 result }
     {
         self.entries
             .iter()

@@ -1,13 +1,13 @@
 -- The rows of a block, cut out of an index that tells of it. Assumes nothing.
-use Rattle.std.proofs.Common.{◌≡◌, ℕ, zero, suc, ◌+◌, ◌-◌, ◌*◌, ◌<◌, ◌≤◌, Bool, List, [], ◌∷◌, ◌++◌, length, get_or, take, drop, vec_items, sym, refl, ap, ◌∙◌, mul-le-mul_right, arith, length-append}
-use Rattle.std.proofs.lemmas.List.{drop-drop, drop_at, drop-take, take-append-le, take_all, get_or-drop, get_or-take}
+use Rattle.std.proofs.Common.{◌≡◌, ℕ, zero, suc, ◌+◌, ◌-◌, ◌*◌, ◌<◌, ◌≤◌, List, [], ◌∷◌, ◌++◌, length, get_or, take, drop, vec_items, sym, refl, ap, ◌∙◌, mul-le-mul_right, arith, length-append}
+use Rattle.std.proofs.lemmas.List.{drop-drop, drop_at, drop-take, take-take, take-append-le, take_all, get_or-drop, get_or-take}
 use Rattle.flash.specs.declared.chunks.Chunk.{Chunk}
 use Rattle.flash.specs.declared.chunks.Chunk.TheVariants.{Blank, Damaged, Holds}
 use Rattle.flash.specs.declared.chunks.Look.{Look}
 use Rattle.flash.specs.declared.chunks.Look.TheVariants.{Blank as blank_l}
 use Rattle.flash.specs.Blocks.{chunk_at}
 use Rattle.flash.specs.Chunks.{look_of}
-use Rattle.rules.specs.Lists.{first_where, next_if}
+use Rattle.rules.specs.Lists.{first_where}
 use Rattle.rules.specs.Places.{Flash, load}
 use Rattle.rules.specs.Records.{is_blank}
 use Rattle.table.proofs.BareBlocks.{blocks-alike, table-mirrors}
@@ -23,24 +23,16 @@ block_fits b n p h = let m : suc b * p ≤ n * p = mul-le-mul_right p (omega ari
 
 looks-append : (xs ys : List Chunk) → looks (xs ++ ys) ≡ looks xs ++ looks ys
 looks-append [] ys = refl
-looks-append (x ∷ xs) ys = ap {B = List Look} (λ zs. look_of x ∷ zs) (looks-append xs ys)
+looks-append (x ∷ xs) ys = rw (looks-append xs ys) refl
 
 -- the looks at one of the blocks
 cut-flat : (p b : ℕ) (bs : List (List Chunk)) → b < length bs → ((k : ℕ) → k < length bs → length (get_or bs k []) ≡ p) → take p (drop (b * p) (looks (flat bs))) ≡ looks (get_or bs b [])
 cut-flat p b [] h l = absurd (omega arith)
-cut-flat p zero (x ∷ bs) h l =
-    let long : length (looks x) ≡ p = looks_long x ∙ l 0 (omega arith) in
-    ap (λ (k : ℕ). take p (drop k (looks (x ++ flat bs)))) (let e : 0 * p ≡ 0 = omega arith in e)
-    ∙ ap (take p) (looks-append x (flat bs))
-    ∙ take-append-le p (looks x) (looks (flat bs)) (omega arith)
-    ∙ take_all p (looks x) (omega arith)
+cut-flat p zero (x ∷ bs) h l = grind (arith, looks-append x (flat bs), looks_long x, l 0 (omega arith), take-append-le, take_all)
 cut-flat p (suc b) (x ∷ bs) h l =
     let long : length (looks x) ≡ p = looks_long x ∙ l 0 (omega arith) in
-    ap (λ (k : ℕ). take p (drop k (looks (x ++ flat bs)))) (let e : suc b * p ≡ p + b * p = omega arith in e)
-    ∙ ap (take p) (sym (drop-drop (b * p) p (looks (x ++ flat bs))))
-    ∙ ap (λ (ys : List Look). take p (drop (b * p) (drop p ys))) (looks-append x (flat bs))
-    ∙ ap (λ (ys : List Look). take p (drop (b * p) ys)) (drop_at (looks x) (looks (flat bs)) p long)
-    ∙ cut-flat p b bs (omega arith) (λ k g. l (suc k) (omega arith))
+    let e : suc b * p ≡ p + b * p = omega arith in
+    rw e (rw (sym (drop-drop (b * p) p (looks (x ++ flat bs)))) (rw (looks-append x (flat bs)) (rw (drop_at (looks x) (looks (flat bs)) p long) (cut-flat p b bs (omega arith) (λ k g. l (suc k) (omega arith))))))
 
 -- the front of the rows is enough
 cut-front : (p b n : ℕ) (rows : List Look) → b < n → take p (drop (b * p) (take (n * p) rows)) ≡ take p (drop (b * p) rows)
@@ -49,13 +41,7 @@ cut-front p b n rows h =
     let e : n * p ≡ b * p + (n * p - b * p) = omega arith in
     ap (λ (k : ℕ). take p (drop (b * p) (take k rows))) e
     ∙ ap (take p) (drop-take (b * p) (n * p - b * p) rows)
-    ∙ front p (n * p - b * p) (drop (b * p) rows) (omega arith)
-  where
-    front : (k m : ℕ) (xs : List Look) → k ≤ m → take k (take m xs) ≡ take k xs
-    front zero m xs l = refl
-    front (suc k) zero xs l = absurd (omega arith)
-    front (suc k) (suc m) [] l = refl
-    front (suc k) (suc m) (x ∷ xs) l = ap {B = List Look} (λ zs. x ∷ zs) (front k m xs (omega arith))
+    ∙ take-take p (n * p - b * p) (drop (b * p) rows) (omega arith)
 
 blank-look : (c : Chunk) → is_blank_l (look_of c) ≡ is_blank c
 blank-look Blank = refl
@@ -64,7 +50,7 @@ blank-look (Holds r) = refl
 
 first-look : (cs : List Chunk) → first_where is_blank_l (looks cs) ≡ first_where is_blank cs
 first-look [] = refl
-first-look (c ∷ cs) = ap (λ (b : Bool). next_if b (first_where is_blank_l (looks cs))) (blank-look c) ∙ ap (next_if (is_blank c)) (first-look cs)
+first-look (c ∷ cs) = rw (blank-look c) (rw (first-look cs) refl)
 
 flat-long : (p : ℕ) (bs : List (List Chunk)) → ((k : ℕ) → k < length bs → length (get_or bs k []) ≡ p) → length (flat bs) ≡ length bs * p
 flat-long p [] l = omega arith

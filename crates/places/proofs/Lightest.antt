@@ -1,5 +1,5 @@
 -- The block of least load, found by a chain from the lowest number up. Assumes nothing.
-use Rattle.std.proofs.Common.{◌≡◌, ℕ, suc, cond, leb, List, [], ◌∷◌, map, Some, None, Option, refl, ap, ◌∙◌, subst, add-one, arith}
+use Rattle.std.proofs.Common.{◌≡◌, ℕ, suc, List, [], ◌∷◌, map, Some, None, Option, refl, ap, ◌∙◌, subst, add-one, arith}
 use denote.Param.Members.{Mut, Called}
 use Rattle.std.specs.Iterator.{ReducesItems, Drains, FoldTurn}
 use Rattle.std.specs.List.{FoldsTo, reduce, fold, filter, enumerate_from}
@@ -35,15 +35,9 @@ abbrev pub closed_with_loads : (ℕ → ℕ) → ℕ → List Standing → List 
 closed_with_loads load i ss = map (λ q. with_load load q.0) (filter (λ q. is_closed_s q.1) (enumerate_from i ss))
 
 module _ (load : ℕ → ℕ) where
-  step-none : (v w : Victim) → ◌≡◌ {A = Option (ℕ × ℕ)} (Some ((lighter v w).block, (lighter v w).load)) (Some (cond {A = ℕ × ℕ} (leb v.load w.load) (v.block, v.load) (w.block, w.load)))
-  step-none v w = grind (arith, nat_tests, common_steps)
-
-  step-some : (v w : Victim) (o : ℕ × ℕ) → better (lighter v w).block (lighter v w).load (Some o) ≡ better v.block v.load (better w.block w.load (Some o))
-  step-some v w o = grind (arith, nat_tests, common_steps)
-
   step : (v w : Victim) (m : Option (ℕ × ℕ)) → better (lighter v w).block (lighter v w).load m ≡ better v.block v.load (better w.block w.load m)
-  step v w None = step-none v w
-  step v w (Some o) = step-some v w o
+  step v w None = grind (arith, nat_tests, common_steps)
+  step v w (Some o) = grind (arith, nat_tests, common_steps)
 
   beside : (best : Victim) (i : ℕ) (ss : List Standing) → victim_told (Some (fold lighter best (closed_with_loads load i ss))) ≡ better best.block best.load (least load i ss)
   beside best i [] = refl

@@ -1,10 +1,9 @@
-ghost use Rattle.std.specs.Prelude.{◌≡◌, ◌+◌, ◌<◌, ◌≤◌, length, take, drop, position};
+ghost use Rattle.std.specs.Prelude.{◌≡◌, length, position};
 ghost use Rattle.rules.specs.Lists.{count};
-ghost use Rattle.places.specs.Places.{Below, stands_as, is_blank_l, rows_of};
+ghost use Rattle.places.specs.Places.{Below, stands_as, is_blank_l};
 
 use flash::Look;
 use rules::Standing;
-use scan::Index;
 
 // The first block that stands so.
 pub(crate) fn first_standing(standings: &[Standing], wanted: Standing) -> Option<usize>
@@ -31,15 +30,4 @@ pub(crate) fn first_blank(rows: &[Look]) -> Option<usize>
     ensures within { Below (length rows.now) result }
 {
     rows.iter().position(|look| *look == Look::Blank)
-}
-
-// What each chunk of a block is.
-pub(crate) fn rows_of(index: &Index, block: usize) -> &[Look]
-    requires { block < index.now.sizes.blocks }
-    ensures value { result.now ≡ rows_of index.now block }
-    ensures few { length result.now ≤ index.now.sizes.chunks }
-{
-    let chunks = index.sizes.chunks as usize;
-    let start = block * chunks;
-    &index.rows[start..start + chunks]
 }

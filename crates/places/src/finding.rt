@@ -1,32 +1,20 @@
-ghost use Rattle.std.specs.Prelude.{◌≡◌, ◌<◌, ◌^◌};
+ghost use Rattle.std.specs.Prelude.{◌≡◌};
 ghost use Rattle.rules.specs.Places.{Flash, add_place, copy_place};
 ghost use Rattle.places.specs.Places.{Told, place_told, open_in, blank_in, spare_in};
 
-use crate::blocks::{count_standing, first_blank, first_standing, rows_of};
+use crate::blocks::{count_standing, first_blank, first_standing};
 use flash::Place;
 use rules::Standing;
 use scan::Index;
-
-// The place of a chunk.
-fn place(block: usize, chunk: usize) -> Place
-    requires { (block < 2 ^ 32) × (chunk < 2 ^ 32) }
-    ensures block { result.block ≡ block }
-    ensures chunk { result.chunk ≡ chunk }
-{
-    Place {
-        block: block as u32,
-        chunk: chunk as u32,
-    }
-}
 
 // The open block's first blank chunk.
 #[tactic(auto, unfolding(crate::specs::Places::open_in))]
 fn open_place(index: &Index) -> Option<Place>
     ensures { place_told result ≡ open_in index.now }
 {
-    let block = first_standing(index.stands(), Standing::Open)?;
-    let chunk = first_blank(rows_of(index, block))?;
-    Some(place(block, chunk))
+    let block = first_standing(index.stands(), Standing::Open)? as u32;
+    let chunk = first_blank(&index.rows[index.sizes.rows_of(block)])? as u32;
+    Some(Place::new(block, chunk))
 }
 
 // Chunk 0 of the lowest blank block.
@@ -34,7 +22,7 @@ fn open_place(index: &Index) -> Option<Place>
 fn blank_place(index: &Index) -> Option<Place>
     ensures { place_told result ≡ blank_in index.now }
 {
-    first_standing(index.stands(), Standing::Blank).map(|block| place(block, 0))
+    first_standing(index.stands(), Standing::Blank).map(|block| Place::new(block as u32, 0))
 }
 
 // The same, if another block stays blank.

@@ -19,7 +19,7 @@ pub byte-run : (f : File) (here k : ℕ) → here % 2048 + k < 2048 → byte_in 
 byte-run f here k h =
     let q : here / 2048 + 1 ≡ (here + k) / 2048 + 1 = omega arith in
     let r : here % 2048 + k ≡ (here + k) % 2048 = omega arith in
-    ap (λ (i : ℕ). byte_in (f.part i) (here % 2048 + k)) q ∙ ap (byte_in (f.part ((here + k) / 2048 + 1))) r
+    rw q (rw r refl)
 
 -- a file has at most 2,048 bytes for each chunk of its length
 last-most : (m : Option Record) → ((d : Record) → m ≡ Some d → length d.bytes ≡ 2048) → last_count (bytes_in m) ≤ 2048
@@ -36,11 +36,8 @@ module _ (rs : List Record) (whole : (r : Record) → Among r rs → Whole r) (o
 
 -- an object that has a size is a file of that size
 sized-file : (m : Option File) (n : ℕ) → option_map size m ≡ Some n → (f : File) × (m ≡ Some f) × (n ≡ size f)
-sized-file None n h = absurd (let z : ◌≡◌ {A = ℕ} 0 1 = cc in omega arith)
+sized-file None n h = absurd cc
 sized-file (Some f) n h = (f, refl, cc)
-
-pub has-size : (s : State) (o n : ℕ) → HasSize s o n → (f : File) × (files (standing (blocks_of s)) o ≡ Some f) × (n ≡ size f)
-has-size s o n h = sized-file (files (standing (blocks_of s)) o) n h
 
 -- one chunk's part more
 pub part-most : (cur : List ℕ) (at count most n : ℕ) → at ≤ count → n ≡ min (length (take (count - at) (drop at cur))) most → at + n ≤ count
@@ -59,7 +56,7 @@ pub read_all : (s : State) (o n pos m : ℕ) (was is : List ℕ) → HasSize s o
     → (f : File) → files (standing (blocks_of s)) o ≡ Some f → is ≡ laid (byte_at f) pos m was → ReadFrom f pos was (Ok m) is
 unfolding read_bytes
 read_all s o n pos m was is h e f d u =
-    let q = has-size s o n h in
+    let q = sized-file (files (standing (blocks_of s)) o) n h in
     let g : q.0 ≡ f = (let w : Some q.0 ≡ Some f = sym q.1 ∙ d in cc) in
     let c : m ≡ min (length was) (size f - pos) = e ∙ ap (λ (k : ℕ). min (length was) (k - pos)) (q.2 ∙ ap size g) in
     (c, u ∙ ap (λ (k : ℕ). laid (byte_at f) pos k was) c)

@@ -1,6 +1,8 @@
 -- What an index that knows its chip tells: a table to read from, whose records keep the rules. Assumes nothing.
-use Rattle.std.proofs.Common.{◌≡◌, ℕ, ◌+◌, ◌*◌, ◌^◌, ◌<◌, ◌≤◌, true, false, ◌&&◌, eqb, leb, List, [], ◌∷◌, map, length, Some, None, Option, refl, ap, ◌∙◌, subst, inl, inr, arith}
-use Rattle.std.proofs.lemmas.Bool.{both_ways, and_parts, cases_Bool, eqb-true, leb-true, cond-false}
+use Rattle.std.proofs.Common.{◌≡◌, ℕ, ◌+◌, ◌*◌, ◌^◌, ◌<◌, ◌≤◌, true, false, eqb, List, [], ◌∷◌, map, length, Some, None, Option, refl, ap, ◌∙◌, subst, inl, inr, arith}
+use Rattle.std.proofs.lemmas.Bool.{both_ways, and_parts, eqb-true}
+use Rattle.std.proofs.lemmas.Bool.Decides.{nat_tests}
+use Rattle.std.proofs.lemmas.Grind.{common_steps}
 use Rattle.std.specs.Option.{option_map}
 use Rattle.flash.specs.declared.chunks.Record.{Record}
 use Rattle.flash.specs.Blocks.{standing}
@@ -34,40 +36,16 @@ use Rattle.scan.proofs.Recorded.{stands-in-row, table-records}
 -- a record that keeps the rules has numbers of 32 bits
 first_fits : (f : ℕ) → (kind_by f ≡ other_k → ⊥) → f < 2 ^ 32
 unfolding kind_by
-first_fits f known =
-    elim (cases_Bool (leb 1 f && leb f 1000)) [
-      | inl e ↦ omega (arith, leb-true f 1000 (and_parts (leb 1 f) (leb f 1000) e).1)
-      | inr e ↦ elim (cases_Bool (eqb f 0x80000001)) [
-        | inl h ↦ omega (arith, eqb-true f 0x80000001 h)
-        | inr h ↦ elim (cases_Bool (eqb f 0xC0000001)) [
-          | inl k ↦ omega (arith, eqb-true f 0xC0000001 k)
-          | inr k ↦ elim (cases_Bool (eqb f 0xC0000004)) [
-            | inl m ↦ omega (arith, eqb-true f 0xC0000004 m)
-            | inr m ↦ absurd (known (cond-false _ _ _ e ∙ cond-false _ _ _ h ∙ cond-false _ _ _ k ∙ cond-false _ _ _ m))
-          ]
-        ]
-      ]
-    ]
+first_fits f known = grind (arith, nat_tests, common_steps)
 
 in-range : (low high k : ℕ) → within low high k ≡ true → k ≤ high
-in-range low high k e = leb-true k high (and_parts (leb low k) (leb k high) e).1
+in-range low high k e = grind (arith, nat_tests, common_steps)
 
 ruled-by : (r : Record) (k : Kind) → rules_by r k ≡ true → (k ≡ other_k → ⊥) × (r.tag.second < 2 ^ 32) × (r.tag.third ≤ 2048)
-ruled-by r data_k e =
-    let a = and_parts (within 1 1000 r.tag.first) _ e in
-    let b = and_parts (within 257 511 r.tag.second) _ a.1 in
-    (λ q. let z : ◌≡◌ {A = ℕ} 0 1 = cc in omega arith, omega (arith, in-range 257 511 r.tag.second b.0), omega (arith, in-range 1 2048 r.tag.third b.1))
-ruled-by r header_k e =
-    let a = and_parts (within (0x10000000 + 257) (0x10000000 + 511) r.tag.second) _ e in
-    let b = and_parts (leb r.tag.third 1000) _ a.1 in
-    (λ q. let z : ◌≡◌ {A = ℕ} 0 1 = cc in omega arith, omega (arith, in-range (0x10000000 + 257) (0x10000000 + 511) r.tag.second a.0), omega (arith, leb-true r.tag.third 1000 b.0))
-ruled-by r cut_k e =
-    let a = and_parts (within (0x10000000 + 257) (0x10000000 + 511) r.tag.second) _ e in
-    let b = and_parts (leb r.tag.third 1000) _ a.1 in
-    (λ q. let z : ◌≡◌ {A = ℕ} 0 1 = cc in omega arith, omega (arith, in-range (0x10000000 + 257) (0x10000000 + 511) r.tag.second a.0), omega (arith, leb-true r.tag.third 1000 b.0))
-ruled-by r marker_k e =
-    let a = and_parts (within (0x10000000 + 257) (0x10000000 + 511) r.tag.second) _ e in
-    (λ q. let z : ◌≡◌ {A = ℕ} 0 1 = cc in omega arith, omega (arith, in-range (0x10000000 + 257) (0x10000000 + 511) r.tag.second a.0), omega (arith, eqb-true r.tag.third 0 a.1))
+ruled-by r data_k e = (λ q. cc, grind (arith, nat_tests, common_steps), grind (arith, nat_tests, common_steps))
+ruled-by r header_k e = (λ q. cc, grind (arith, nat_tests, common_steps), grind (arith, nat_tests, common_steps))
+ruled-by r cut_k e = (λ q. cc, grind (arith, nat_tests, common_steps), grind (arith, nat_tests, common_steps))
+ruled-by r marker_k e = (λ q. cc, grind (arith, nat_tests, common_steps), grind (arith, nat_tests, common_steps))
 ruled-by r other_k e = absurd (both_ways false refl e)
 
 kept_whole : (r : Record) → keeps_rules r ≡ true → length r.bytes ≡ 2048 → Whole r

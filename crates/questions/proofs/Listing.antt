@@ -1,13 +1,13 @@
 -- The rows of the files, by rising object number. Assumes nothing.
-use Rattle.std.proofs.Common.{◌≡◌, ℕ, suc, ◌+◌, ◌-◌, ◌<◌, Bool, true, false, cond, List, [], ◌∷◌, ◌++◌, map, length, drop, set, Some, None, Option, sym, refl, ap, ◌∙◌, subst, add-one, arith}
+use Rattle.std.proofs.Common.{◌≡◌, ℕ, suc, ◌+◌, ◌-◌, ◌<◌, Bool, true, false, cond, List, [], ◌∷◌, ◌++◌, map, length, get_or, drop, set, Some, None, Option, sym, refl, ap, ◌∙◌, subst, add-one, arith}
 use Rattle.std.specs.declared.ops.RangeInclusive.{RangeInclusive}
 use Rattle.std.specs.Iterator.{Yields}
 use Rattle.std.specs.List.{filter, cons_option, enumerate_from}
 use Rattle.std.specs.Option.{option_map}
 use Rattle.std.specs.Range.{range_inclusive_steps, range_inclusive_left, range_inclusive_len, range_inclusive_start, range_inclusive_end, range_inclusive_exhausted}
-use Rattle.std.proofs.lemmas.List.{append_assoc, length-append, length-map, map-append, map-id, set-append_right}
+use Rattle.std.proofs.lemmas.List.{append_assoc, length-append, length-map, map-append, map-id}
 use Rattle.std.proofs.lemmas.List.FromFn.{length-enumerate_from, get_or-enumerate_from}
-use Rattle.std.proofs.Math.Seq.{drop-cons}
+use Rattle.std.proofs.Math.Seq.{drop-cons, set-append_seam}
 use Rattle.std.proofs.lemmas.Iterator.{YieldsList}
 use Rattle.std.proofs.lemmas.Iterator.Consumers.{YieldsList-from_shown, YieldsList-turn, YieldsList-end}
 use Rattle.flash.specs.declared.chunks.Record.{Record}
@@ -63,14 +63,11 @@ pub laid_one : (xs was : List Row) (ys : List (ℕ × Row)) (at : ℕ) (row : Ro
 laid_one xs was ys at row e h s =
     let n = length ys in
     let front : List Row = map (λ p. p.1) ys in
-    let none : n - n ≡ 0 = omega arith in
-    ap (λ (zs : List Row). set zs at row) s ∙ ap (λ (k : ℕ). set (front ++ drop n was) k row) e
-    ∙ set-append_right front (drop n was) n n row (length-map ys (λ p. p.1)) (omega arith)
-    ∙ ap (λ (k : ℕ). front ++ set (drop n was) k row) none
-    ∙ ap (λ (zs : List Row). front ++ set zs 0 row) (drop-cons was n row (omega arith))
-    ∙ sym (append_assoc front (row ∷ []) (drop (suc n) was))
-    ∙ ap (λ (zs : List Row). zs ++ drop (suc n) was) (sym (map-append (λ p. p.1) ys ((at, row) ∷ [])))
-    ∙ ap (λ (k : ℕ). map (λ p. p.1) (ys ++ (at, row) ∷ []) ++ drop k was) (let q : suc n ≡ length (ys ++ (at, row) ∷ []) = omega (arith, length-append ys ((at, row) ∷ [])) in q)
+    rw s (rw e (rw (drop-cons was n row (omega (arith, e))) (
+    ap (λ (k : ℕ). set (front ++ get_or was n row ∷ drop (suc n) was) k row) (sym (length-map ys (λ p. p.1)))
+    ∙ set-append_seam front _ (drop (suc n) was) row ∙ sym (append_assoc front (row ∷ []) (drop (suc n) was))
+    ∙ rw (map-append (λ p. p.1) ys ((n, row) ∷ [])) (rw (length-append ys ((n, row) ∷ [])) (rw add-one refl))
+    )))
 
 -- all rows, and those beyond
 pub laid_all : (xs was all : List Row) (ys : List (ℕ × Row)) → map (λ p. p.1) ys ≡ all → xs ≡ map (λ p. p.1) ys ++ drop (length ys) was → xs ≡ all ++ drop (length all) was
@@ -117,10 +114,7 @@ module _ (rs : List Record) (fs : Files) (l : (o : ℕ) → length_of rs o ≡ o
 
   rows_in_lem : (os : List ℕ) → table_rows rs os ≡ rows_in fs os
   rows_in_lem [] = refl
-  rows_in_lem (o ∷ os) =
-      ap (λ (y : Option Row). cons_option y (table_rows rs os)) (row-known o)
-      ∙ ap (cons_option (plain_row o (option_map (λ y. y.long) (fs o)) (option_map size (fs o)))) (rows_in_lem os)
-      ∙ row-cons o (fs o) (rows_in fs os)
+  rows_in_lem (o ∷ os) = rw (row-known o) (rw (rows_in_lem os) (row-cons o (fs o) (rows_in fs os)))
 
   pub rows-known : table_rows rs objects ≡ rows fs
   unfolding rows

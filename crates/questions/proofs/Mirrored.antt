@@ -38,7 +38,7 @@ module _ (s : State) (z : Sizes) (rows : List Look) (ok : Readable s z rows) whe
         ∙ (bare-reads-alike (standing (blocks_of s))).chunk_same o j
 
     same_bytes : (f : Found) (m : Option Record) → chunk (standing (blocks_of s)) o j ≡ m → Some (bare_tag f.tag) ≡ option_map bare m → Stands s (Some f) → counted (row_of s f.place) ≡ bytes_in m
-    same_bytes f None c e p = absurd (let q : ◌≡◌ {A = ℕ} 0 1 = cc in omega arith)
+    same_bytes f None c e p = absurd cc
     same_bytes f (Some d) c e p =
         let h = held (row_of s f.place) f.tag p.1 in
         let t : bare_tag f.tag ≡ bare d = cc in
@@ -48,7 +48,7 @@ module _ (s : State) (z : Sizes) (rows : List Look) (ok : Readable s z rows) whe
 
     no_bytes : (m : Option Record) → None ≡ option_map bare m → None ≡ bytes_in m
     no_bytes None e = refl
-    no_bytes (Some d) e = absurd (let q : ◌≡◌ {A = ℕ} 0 1 = cc in omega arith)
+    no_bytes (Some d) e = absurd cc
 
     pub found-bytes : (found : Option Found) → record_of found ≡ chunk (records rows) o j → InPlace rows found → counted_at s found ≡ bytes_in (chunk (standing (blocks_of s)) o j)
     found-bytes None e p = no_bytes (chunk (standing (blocks_of s)) o j) (e ∙ mirrored)

@@ -28,10 +28,7 @@ pub fn name(index: &Index, object: u32) -> Result<&[u8], Refusal>
     if !is_object(object) {
         return Err(Refusal::BadObject);
     }
-    if !index.names.is_there(object) {
-        return Err(Refusal::NotPresent);
-    }
-    Ok(index.names.name(object))
+    index.names.name(object).ok_or(Refusal::NotPresent)
 }
 
 // How many bytes a file has.
@@ -43,7 +40,8 @@ pub fn size(index: &Index, object: u32) -> Result<u32, Refusal>
 }
 
 // Reads the bytes of a file from a position on, as many as the buffer holds or the size allows, and answers their
-// number. The bytes of the buffer beyond them stay.
+// number. The bytes of the buffer beyond them stay. Object, position and buffer are a read's arguments: a struct of the
+// three would be made for one call and taken apart in it.
 #[tactic(auto, using(crate::proofs::Knowing::readable))]
 pub fn read<C: Chip>(
     index: &Index,

@@ -10,6 +10,8 @@ use reading::{length, present, size};
 use rules::{FIRST_OBJECT, LAST_OBJECT, Row, is_object};
 use scan::Refusal;
 
+// Each takes the looks and, of one file, the object, as `reading` does: a list would make a struct of both for each object.
+
 // A number of bytes in 32 bits; no file that keeps the rules has more.
 fn narrow(bytes: u64) -> u32
     ensures { result ≡ narrowed bytes }
@@ -53,6 +55,7 @@ pub(crate) fn list_into(looks: &[Look], rows: &mut [Row])
     ensures { rows.new ≡ table_rows (records looks.now) objects ++ drop (length (table_rows (records looks.now) objects)) rows.old }
 {
     let files = (FIRST_OBJECT..=LAST_OBJECT).filter_map(|object| row_of(looks, object));
+    // Tried: `files.zip(rows.iter_mut())`, but after it a proof knows nothing of what the rows' iterator lent.
     for (at, row) in files.enumerate() {
         rows[at] = row;
     }

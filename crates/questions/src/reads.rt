@@ -51,7 +51,8 @@ fn copy_chunk<C: Chip>(
 }
 
 // Reads the bytes of a file of this size from a position on, as many as the buffer holds or the size allows, and answers
-// their number. Each chunk's bytes go into their own part of the buffer; the bytes beyond stay.
+// their number. Each chunk's bytes go into their own part of the buffer; the bytes beyond stay. Object, position and
+// buffer are the arguments of `read`, handed on.
 pub(crate) fn read_from<C: Chip>(
     chip: &C,
     index: &Index,
