@@ -9,6 +9,8 @@ use std::alloc::AllocError;
 
 // The text and the chip stay two parameters: methods of a struct of both would hold a `&mut` behind a `&mut`, and say no more.
 
+// The loops below go over the numbers by which the chip is called: no collection is gone through by index.
+
 // What a chunk holds, if it holds a record.
 fn held<C: Chip>(out: &mut String, chip: &C, at: Place) -> Result<(), AllocError>
     requires { ((C.Chip.model chip.now).on ≡ true) × (Within (C.Chip.model chip.now) at) }
