@@ -1,4 +1,4 @@
-use crate::tests::chips::{BLANK, CUT, HEAD, MARK, MOST, at, raw, tag, verdict};
+use crate::tests::chips::{BLANK, CUT, HEAD, MARK, MOST, raw, tag, verdict};
 use flash::Place;
 use scan::Refusal;
 use std::process::Abort;
@@ -100,7 +100,7 @@ fn each_alone<F: Fn(Place) -> Result<(), Refusal>>(
     requires { F.IsAlwaysCallable answer }
 {
     for (i, case) in cases.iter().enumerate() {
-        for place in [at(2, 1), at(0, 0)] {
+        for place in [Place::new(2, 1), Place::new(0, 0)] {
             assert_eq!(rt; alone(rt, *case, place)?, answer(place), "{}", i);
         }
     }

@@ -1,4 +1,4 @@
-use crate::tests::chips::{BLANK, SURE, data, header, lists, refuses_all, row, running, stopped};
+use crate::tests::chips::{BLANK, data, header, lists, refuses_all, row, running, stopped};
 use bench::{BenchChip, Plan};
 use flash::{Act, Chunk, Fault};
 use rules::Row;
@@ -45,7 +45,7 @@ fn is_clean(rt: &impl Abort, store: Store<BenchChip>) {
 
 #[test]
 fn all_blank(rt: HostRuntime) -> Result<(), Fail> {
-    let mut store = stopped(rt.alloc(), 3, 2, &full(), SURE)?;
+    let mut store = stopped(rt.alloc(), 3, 2, &full(), Plan::default())?;
     assert_eq!(rt; store.mount(), Err(Refusal::SameNames));
     refuses_all(&rt, &store);
     assert_eq!(rt; store.format(), Ok(()));
@@ -60,7 +60,7 @@ fn all_blank(rt: HostRuntime) -> Result<(), Fail> {
 // A store is stopped at first, and after a format while it runs.
 #[test]
 fn stops(rt: HostRuntime) -> Result<(), Fail> {
-    refuses_all(&rt, &stopped(rt.alloc(), 3, 2, &[BLANK; 6], SURE)?);
+    refuses_all(&rt, &stopped(rt.alloc(), 3, 2, &[BLANK; 6], Plan::default())?);
     let [first, second, ..] = full();
     let mut store = running(
         rt.alloc(),
