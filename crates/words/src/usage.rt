@@ -8,6 +8,8 @@ use std::fmt;
 use texts::stops::Stop;
 
 impl Name {
+    // Each command has two texts, and a `Display` of `Name` could write but one of them: so both are functions.
+
     // The name with its operands.
     fn synopsis(self) -> &'static str
         ensures { result.now ≡ synopsis_text self }
