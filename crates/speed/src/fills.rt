@@ -2,8 +2,8 @@ use flash::{Chunk, Record, Sizes, Tag};
 use rules::{CHUNK_BYTES, FIRST_OBJECT, HEADER, LAST_NUMBER, OBJECT_BASE};
 use std::alloc::{AllocError, Global};
 
-// What the chip is filled with: one file of 1,000 chunks, the longest there is, and then files of 50 chunks. Each file has its
-// header first. Record i has serial i + 1.
+// What the chip is filled with: one file of 1,000 chunks, the longest there is, and then files of 50 chunks. Each file has
+// its header first. Record i has serial i + 1.
 
 // The largest chip.
 pub(crate) const SIZES: Sizes = Sizes {
@@ -49,7 +49,7 @@ fn data(file: u32, number: u32, serial: u32) -> Record {
 
 fn record(i: u32) -> Record {
     let serial = i.saturating_add(1);
-    // files are counted from 0; chunk number 0 is the header
+    // files are counted from 0, and so are the records of a file: the first is its header, record j chunk j
     let (file, number) = match i.checked_sub(LONG) {
         None => (0, i),
         Some(after) => (1 + after / SHORT, after % SHORT),

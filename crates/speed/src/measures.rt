@@ -13,7 +13,8 @@ const BYTES: usize = LAST_NUMBER as usize * CHUNK_BYTES;
 
 // A stopped store over a chip of these rows.
 fn attached(rt: &HostRuntime, rows: Vec<Chunk>) -> anyhow::Result<Store<BenchChip>> {
-    let chip = BenchChip::new(rows, SIZES, Plan::default()).map_err(|_| anyhow!("the rows do not fit"))?;
+    let sure = Plan::default();
+    let chip = BenchChip::new(rows, SIZES, sure).map_err(|_| anyhow!("the rows do not fit"))?;
     Store::attach(rt.alloc(), chip).map_err(|_| anyhow!("no memory"))
 }
 

@@ -66,7 +66,8 @@ impl fmt::Display for Misuse<'_> {
             Misuse::NotANumber(word) => write!(f, "'{word}' is not a number"),
             Misuse::Sizes => write!(
                 f,
-                "refused: 9, the number of blocks is outside 3 to 64, that of chunks in each outside 2 to 64, or that of all chunks over 2,048"
+                "refused: 9, the number of blocks is outside 3 to 64, that of chunks in each outside 2 to 64, \
+                 or that of all chunks over 2,048"
             ),
         }
     }

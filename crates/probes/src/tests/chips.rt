@@ -31,8 +31,8 @@ pub(crate) fn tag(first: u32, second: u32, third: u32, serial: u32) -> Tag {
     }
 }
 
-// Records, made here as in `speed` and `demos`: a function for all would be public, so it could ask nothing of its caller, and
-// would have to refuse long names.
+// Records, made here as in `speed` and `demos`: a function for all would be public, so it could ask nothing of its caller,
+// and would have to refuse long names.
 
 // A record of these numbers, every data byte the same.
 pub(crate) fn raw(tag: Tag, byte: u8) -> Chunk {
@@ -114,8 +114,8 @@ pub(crate) fn running(
     Ok(store)
 }
 
-// What mount answers on a bench chip of these rows; on an image chip of them it answers the same. An image has a byte for
-// each of the two numbers.
+// What mount answers on a bench chip of these rows; on an image chip of them it answers the same. The two numbers
+// are bytes, as an image has them.
 pub(crate) fn verdict(
     rt: &(impl Abort + AllocGlobal),
     blocks: u8,
@@ -123,7 +123,13 @@ pub(crate) fn verdict(
     rows: &[Chunk],
 ) -> Result<Result<(), Refusal>, Fail> {
     let heap = rt.alloc();
-    let mut bench = stopped(heap, u32::from(blocks), u32::from(chunks), rows, Plan::default())?;
+    let mut bench = stopped(
+        heap,
+        u32::from(blocks),
+        u32::from(chunks),
+        rows,
+        Plan::default(),
+    )?;
     let mut image = attached(heap, chip_in(image_of(heap, blocks, chunks, rows)?)?)?;
     let answer = bench.mount();
     assert_eq!(rt; image.mount(), answer);

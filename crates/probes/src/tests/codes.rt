@@ -26,7 +26,7 @@ fn code(chunk: &Chunk) -> [u8; 2065] {
     code
 }
 
-// The image of a chip of these rows, off.
+// The image of a chip of these rows, off. It has a byte for each of the two numbers, so these are no `Sizes`.
 pub(crate) fn image_of(
     heap: Global,
     blocks: u8,

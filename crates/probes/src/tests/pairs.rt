@@ -70,7 +70,10 @@ fn ten(rt: HostRuntime) -> Result<(), Fail> {
     let name = header(257, 0, 1, b"a");
     let other = header(258, 0, 2, b"a");
     for (rows, place) in [
-        ([BLANK, bad(8), bad(7), BLANK, BLANK, bad(9)], Place::new(0, 1)),
+        (
+            [BLANK, bad(8), bad(7), BLANK, BLANK, bad(9)],
+            Place::new(0, 1),
+        ),
         (
             [bad(7), BLANK, data(512, 1, 5, 7), BLANK, BLANK, BLANK],
             Place::new(0, 0),

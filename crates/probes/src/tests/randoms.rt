@@ -9,7 +9,7 @@ use std::process::Abort;
 use std::test::Fail;
 use store::Store;
 
-// Numbers that look random, the same in every run.
+// Numbers that look random, the same in every run: three shifts, with no crate to stand on.
 #[derive(Drop)]
 struct Random(u32);
 
@@ -36,6 +36,8 @@ impl Random {
         }
     }
 }
+
+// What an image's numbers are picked from, written out as the numbers in `chips` are.
 
 const STATES: [u32; 8] = [1, 1, 1, 1, 0xFF, 0xFF, 0xFF, 0];
 
@@ -174,10 +176,7 @@ fn all_agree(rt: &(impl Abort + AllocGlobal), store: &Store<ImageChip>) -> Resul
 }
 
 // What mount answers on an image.
-fn probe(
-    rt: &(impl Abort + AllocGlobal),
-    bytes: Vec<u8>,
-) -> Result<Result<(), Refusal>, Fail> {
+fn probe(rt: &(impl Abort + AllocGlobal), bytes: Vec<u8>) -> Result<Result<(), Refusal>, Fail> {
     let mut store = attached(rt.alloc(), chip_in(bytes)?)?;
     let answer = store.mount();
     match answer {
