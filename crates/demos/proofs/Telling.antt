@@ -2,7 +2,6 @@
 use Rattle.std.proofs.Common.{ℕ, ◌+◌, ◌<◌, List, [], ◌∷◌, ◌++◌, length, get_or, take, sym, refl, ap, ◌∙◌, subst, append_assoc}
 use Rattle.std.proofs.lemmas.List.{append-nil, take_more}
 use Rattle.flash.specs.Model.{State}
-use Rattle.texts.proofs.Adding.{added_then}
 use Rattle.demos.specs.declared.steps.Step.{Step}
 use Rattle.demos.specs.declared.steps.Step.TheVariants.{Restart}
 use Rattle.demos.specs.Steps.{Stepped, Played, Told}
@@ -18,7 +17,7 @@ played-more (y ∷ ys) x s m t a b h d =
 pub told_more : (xs : List Step) (i : ℕ) (s m t : State) (before between after : List ℕ) → i < length xs → Told Played (take i xs) s before between m → Told Stepped (get_or xs i Restart) m between after t → Told Played (take (i + 1) xs) s before after t
 told_more xs i s m t before between after l h d = record {
   text = h.text ++ d.text;
-  added = added_then before between after h.text d.text h.added d.added;
+  added = rw (d.added, h.added, append_assoc) refl;
   told = let P : List Step → Type 0 = λ ys. Played s ys (h.text ++ d.text) t in
       subst P (sym (take_more xs i Restart l)) (played-more (take i xs) (get_or xs i Restart) s m t h.text d.text h.told d.told);
 }

@@ -6,6 +6,7 @@ use crate::steps::Step;
 use flash::{Act, Chip, Fault, Place};
 use lines::bytes::data;
 use lines::chunks::chip_lines;
+use rules::CHUNK_BYTES;
 use std::alloc::AllocError;
 use std::fmt;
 
@@ -30,7 +31,7 @@ impl fmt::Display for Answer {
 fn fetched<C: Chip>(out: &mut String, chip: &C, at: Place) -> Result<(), AllocError>
     ensures { Adds out.old (fetch_text (C.Chip.model chip.now) at) result out.new }
 {
-    let mut bytes = [0; 2048];
+    let mut bytes = [0; CHUNK_BYTES];
     let answer = chip.fetch(at, &mut bytes);
     write!(out, "{}", Answer(answer))?;
     match answer {

@@ -2,18 +2,21 @@ ghost use Rattle.std.specs.Prelude.{◌≡◌, ◌≤◌, length};
 ghost use Rattle.demos.specs.Records.{cut_header, data_chunk};
 
 use flash::{Record, Tag};
+use rules::{CHUNK_BYTES, CUT_HEADER, OBJECT_BASE};
+
+// `speed` and `probes` make records of their own as well: `speed::fills` says why.
 
 // The header that creates a file or cuts it to a length in chunks.
 pub(crate) fn cut_header(object: u32, chunks: u32, serial: u32, name: &[u8]) -> Record
     requires { (object ≤ 511) × (length name.now ≤ 40) }
     ensures { result ≡ cut_header object chunks serial name.now }
 {
-    let mut bytes = [0; 2048];
+    let mut bytes = [0; CHUNK_BYTES];
     bytes[0] = name.len() as u8;
     bytes[1..=name.len()].copy_from_slice(name);
     let tag = Tag {
-        first: 0xC000_0001,
-        second: 0x1000_0000 + object,
+        first: CUT_HEADER,
+        second: OBJECT_BASE + object,
         third: chunks,
         serial,
     };
@@ -25,7 +28,7 @@ pub(crate) fn data_chunk(object: u32, number: u32, serial: u32, content: &[u8]) 
     requires { length content.now ≤ 2048 }
     ensures { result ≡ data_chunk object number serial content.now }
 {
-    let mut bytes = [0; 2048];
+    let mut bytes = [0; CHUNK_BYTES];
     bytes[..content.len()].copy_from_slice(content);
     let tag = Tag {
         first: number,

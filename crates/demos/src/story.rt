@@ -33,10 +33,6 @@ fn second_chunk() -> Record {
     data_chunk(257, 2, 3, b"AND a b carry\n")
 }
 
-fn at(block: u32, chunk: u32) -> Place {
-    Place { block, chunk }
-}
-
 // The supply fails while the file is written.
 pub(crate) fn writing() -> [Step; 22] {
     [
@@ -50,26 +46,26 @@ pub(crate) fn writing() -> [Step; 22] {
         Say(
             "The tester creates the file adder.net, object 257, but has to switch the chip on first:",
         ),
-        Program(Adding, at(0, 0), header()),
+        Program(Adding, Place::new(0, 0), header()),
         Restart,
-        Program(Adding, at(0, 0), header()),
+        Program(Adding, Place::new(0, 0), header()),
         Say("It writes the netlist in two chunks of data, and the supply fails at the second:"),
-        Program(Adding, at(0, 1), first_chunk()),
-        Program(Adding, at(0, 2), second_chunk()),
-        Fetch(at(0, 1)),
+        Program(Adding, Place::new(0, 1), first_chunk()),
+        Program(Adding, Place::new(0, 2), second_chunk()),
+        Fetch(Place::new(0, 1)),
         Say(
             "The supply is back. The chunk that was being written is damaged, and all that was there before stands:",
         ),
         Restart,
         LookAll,
         Say("A chunk takes a record only if it and all later ones of its block are blank:"),
-        Program(Adding, at(0, 2), second_chunk()),
-        Program(Adding, at(0, 1), second_chunk()),
-        Program(Adding, at(0, 3), second_chunk()),
+        Program(Adding, Place::new(0, 2), second_chunk()),
+        Program(Adding, Place::new(0, 1), second_chunk()),
+        Program(Adding, Place::new(0, 3), second_chunk()),
         Say("There is no block 3, and a damaged chunk has no record to fetch:"),
-        Program(Adding, at(3, 0), second_chunk()),
-        Fetch(at(0, 2)),
-        Fetch(at(0, 3)),
+        Program(Adding, Place::new(3, 0), second_chunk()),
+        Fetch(Place::new(0, 2)),
+        Fetch(Place::new(0, 3)),
     ]
 }
 
@@ -84,9 +80,9 @@ pub(crate) fn erasing() -> [Step; 14] {
             "the tester copies its records to block 1 and then erases it, and the supply fails at the erase:",
         ),
         Restart,
-        Program(Copying, at(1, 0), header()),
-        Program(Copying, at(1, 1), first_chunk()),
-        Program(Copying, at(1, 2), second_chunk()),
+        Program(Copying, Place::new(1, 0), header()),
+        Program(Copying, Place::new(1, 1), first_chunk()),
+        Program(Copying, Place::new(1, 2), second_chunk()),
         Erase(0),
         Say("Each chunk of block 0 is as it was, damaged or blank, and no other block is touched:"),
         Restart,

@@ -7,7 +7,10 @@ use crate::bytes::data;
 use flash::{Chip, Look, Place};
 use std::alloc::AllocError;
 
-// The text and the chip stay two parameters: methods of a struct of both would hold a `&mut` behind a `&mut`, and say no more.
+// The text and the chip stay two parameters: methods of a struct of both would hold a `&mut` behind a `&mut`, and say no
+// more.
+
+// The loops below go over the numbers by which the chip is called: no collection is gone through by index.
 
 // What a chunk holds, if it holds a record.
 fn held<C: Chip>(out: &mut String, chip: &C, at: Place) -> Result<(), AllocError>

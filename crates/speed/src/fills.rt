@@ -1,9 +1,9 @@
 use flash::{Chunk, Record, Sizes, Tag};
-use rules::{CHUNK_BYTES, FIRST_OBJECT, LAST_NUMBER};
+use rules::{CHUNK_BYTES, FIRST_OBJECT, HEADER, LAST_NUMBER, OBJECT_BASE};
 use std::alloc::{AllocError, Global};
 
-// What the chip is filled with: one file of 1,000 chunks, the longest there is, and then files of 50 chunks. Each file has its
-// header first. Record i has serial i + 1.
+// What the chip is filled with: one file of 1,000 chunks, the longest there is, and then files of 50 chunks. Each file has
+// its header first. Record i has serial i + 1.
 
 // The largest chip.
 pub(crate) const SIZES: Sizes = Sizes {
@@ -25,8 +25,8 @@ fn header(file: u32, serial: u32) -> Record {
     bytes[0] = 4;
     bytes[1..5].copy_from_slice(&file.to_le_bytes());
     let tag = Tag {
-        first: 0x8000_0001,
-        second: 0x1000_0101u32.saturating_add(file),
+        first: HEADER,
+        second: (OBJECT_BASE + FIRST_OBJECT).saturating_add(file),
         third: 0,
         serial,
     };
@@ -49,7 +49,7 @@ fn data(file: u32, number: u32, serial: u32) -> Record {
 
 fn record(i: u32) -> Record {
     let serial = i.saturating_add(1);
-    // files are counted from 0; chunk number 0 is the header
+    // files are counted from 0, and so are the records of a file: the first is its header, record j chunk j
     let (file, number) = match i.checked_sub(LONG) {
         None => (0, i),
         Some(after) => (1 + after / SHORT, after % SHORT),

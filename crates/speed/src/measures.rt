@@ -8,24 +8,13 @@ use std::fmt;
 use std::time::{Duration, Instant};
 use store::Store;
 
-const SURE: Plan = Plan {
-    fails: 0,
-    damages: 0,
-    takes: 0,
-};
-
 // The size of the long file, the first object.
 const BYTES: usize = LAST_NUMBER as usize * CHUNK_BYTES;
 
-const NONE: Row = Row {
-    object: 0,
-    length: 0,
-    size: 0,
-};
-
 // A stopped store over a chip of these rows.
 fn attached(rt: &HostRuntime, rows: Vec<Chunk>) -> anyhow::Result<Store<BenchChip>> {
-    let chip = BenchChip::new(rows, SIZES, SURE).map_err(|_| anyhow!("the rows do not fit"))?;
+    let sure = Plan::default();
+    let chip = BenchChip::new(rows, SIZES, sure).map_err(|_| anyhow!("the rows do not fit"))?;
     Store::attach(rt.alloc(), chip).map_err(|_| anyhow!("no memory"))
 }
 
@@ -57,7 +46,7 @@ fn measure(rt: &HostRuntime, how: &str, count: u32) -> anyhow::Result<()> {
     let mut store = attached(rt, filled(rt.alloc(), count)?)?;
     let ((), time) = timed(rt, || store.mount())?;
     println!(rt; "{how}: mount: {time}")?;
-    let mut rows = [NONE; 255];
+    let mut rows = [Row::default(); 255];
     let (files, time) = timed(rt, || store.list(&mut rows))?;
     println!(rt; "{how}: list of {files} files: {time}")?;
     if files > 0 {

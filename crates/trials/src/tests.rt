@@ -71,7 +71,8 @@ fn misuses(rt: HostRuntime) -> Result<(), Fail> {
 #[test]
 fn sizes_that_no_store_mounts(rt: HostRuntime) -> Result<(), Fail> {
     let refusal =
-        "refused: 9, the number of blocks is outside 3 to 64, that of chunks in each outside 2 to 64, or that of all chunks over 2,048";
+        "refused: 9, the number of blocks is outside 3 to 64, that of chunks in each outside 2 to 64, \
+         or that of all chunks over 2,048";
     expect(&rt, "new a.img 2 4", refusal)?;
     expect(&rt, "new a.img 65 4", refusal)?;
     expect(&rt, "new a.img 3 1", refusal)?;

@@ -1,8 +1,8 @@
 -- What the digits of a text write. Assumes nothing.
-use Rattle.std.proofs.Common.{◌≡◌, ℕ, ◌+◌, ◌-◌, ◌*◌, ◌^◌, ◌<◌, min, cond, true, false, ◌&&◌, List, [], ◌∷◌, length, Some, None, Result, Ok, Err, refl, ap, sym, ◌∙◌, arith, rules}
+use Rattle.std.proofs.Common.{◌≡◌, ℕ, ◌+◌, ◌-◌, ◌*◌, ◌<◌, min, cond, true, false, List, [], ◌∷◌, length, Some, None, Result, refl, arith, rules}
 use Rattle.std.proofs.lemmas.Str.Parse.{IsNumeralModel, numerals_by_fold, parse_digits}
 use Rattle.std.specs.List.{list_all}
-use Rattle.std.specs.Result.{OkIff, result_unwrap_or}
+use Rattle.std.specs.Result.{result_unwrap_or}
 use Rattle.std.specs.Str.Parse.{ParsesUnsigned}
 use Rattle.words.specs.Numbers.{is_digit, read_on, number_of}
 
@@ -16,24 +16,14 @@ own = numerals_by_fold _ (search rules) follow (search rules)
 
 read_by_all : (n : ℕ) (cs : List ℕ) → read_on n cs ≡ cond (list_all is_digit cs) (Some (min (follow n cs) 4294967295)) None
 read_by_all n [] = refl
-read_by_all n (c ∷ cs) =
-    let m = 10 * n + (c - 48) in
-    elim (is_digit c) as (λ b. cond b (read_on m cs) None ≡ cond (b && list_all is_digit cs) (Some (min (follow m cs) 4294967295)) None) [
-      | true ↦ read_by_all m cs
-      | false ↦ refl
-    ]
-
-capped : {E : Type 0} (n : ℕ) (P : Type 0) (r : Result ℕ E) → P → OkIff r (P × (n < 2 ^ 32)) n → result_unwrap_or r 4294967295 ≡ min n 4294967295
-capped n P (Ok x) p q = omega arith
-capped n P (Err e) p q = let k : ¬ (n < 2 ^ 32) = λ h. q (p, h) in omega arith
+read_by_all n (c ∷ cs) = grind (arith, read_by_all (10 * n + (c - 48)) cs)
 
 pub other_text : (t : List ℕ) → list_all is_digit t ≡ false → None ≡ number_of t
 other_text [] h = refl
-other_text (c ∷ cs) h = sym (rw h at (read_by_all 0 (c ∷ cs)))
+other_text (c ∷ cs) h = search (rules, read_by_all 0 (c ∷ cs))
 
 pub digits_text : {E : Type 0} (t : List ℕ) (r : Result ℕ E) → 0 < length t → list_all is_digit t ≡ true → ParsesUnsigned 32 10 t r → Some (result_unwrap_or r 4294967295) ≡ number_of t
 digits_text [] r l h p = absurd (omega arith)
 digits_text (c ∷ cs) r l h p =
     let t = c ∷ cs in
-    let e = capped (follow 0 t) (0 < length t) r l (parse_digits own 32 t r p h) in
-    ap (λ (n : ℕ). Some n) e ∙ sym (rw h at (read_by_all 0 t))
+    grind (arith, parse_digits own 32 t r p h, read_by_all 0 t)

@@ -10,6 +10,7 @@ use rules::fits;
 pub enum Command<'a> {
     Help,
     Demo,
+    // an image has a byte for the number of blocks and one for that of chunks, so these are no `Sizes`
     New {
         file: &'a str,
         blocks: u8,

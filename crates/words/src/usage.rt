@@ -8,6 +8,8 @@ use std::fmt;
 use texts::stops::Stop;
 
 impl Name {
+    // Each command has two texts, and a `Display` of `Name` could write but one of them: so both are functions.
+
     // The name with its operands.
     fn synopsis(self) -> &'static str
         ensures { result.now ≡ synopsis_text self }
@@ -64,7 +66,8 @@ impl fmt::Display for Misuse<'_> {
             Misuse::NotANumber(word) => write!(f, "'{word}' is not a number"),
             Misuse::Sizes => write!(
                 f,
-                "refused: 9, the number of blocks is outside 3 to 64, that of chunks in each outside 2 to 64, or that of all chunks over 2,048"
+                "refused: 9, the number of blocks is outside 3 to 64, that of chunks in each outside 2 to 64, \
+                 or that of all chunks over 2,048"
             ),
         }
     }

@@ -21,18 +21,9 @@ fn two_files(heap: Global) -> Result<Store<BenchChip>, Fail> {
     running(heap, 3, 4, &rows)
 }
 
-const BOTH: [Row; 2] = [
-    Row {
-        object: 257,
-        length: 3,
-        size: 4101,
-    },
-    Row {
-        object: 511,
-        length: 2,
-        size: 2052,
-    },
-];
+fn both() -> [Row; 2] {
+    [row(257, 3, 4101), row(511, 2, 2052)]
+}
 
 // A byte of a file; missing chunks, and bytes past a chunk's byte count, are 0.
 fn content(object: u32, position: u64) -> u8 {
@@ -75,7 +66,7 @@ fn reads(
     Ok(())
 }
 
-// Object, position, length of the buffer, and how many bytes are read.
+// Object, position, length of the buffer, and how many bytes are read: a tuple, since a struct would take six lines a row.
 const READS: [(u32, u64, usize, usize); 20] = [
     (257, 0, 10, 10),
     (257, 1000, 10, 10),
@@ -163,7 +154,7 @@ fn names(rt: HostRuntime) -> Result<(), Fail> {
 #[test]
 fn rows(rt: HostRuntime) -> Result<(), Fail> {
     let store = two_files(rt.alloc())?;
-    let [first, second] = BOTH;
+    let [first, second] = both();
     let kept = row(9, 9, 9);
     for long in 0..5 {
         let mut rows = [kept; 4];

@@ -1,6 +1,6 @@
 use crate::tests::codes::{chip_in, image_of};
 use bench::{BenchChip, Plan};
-use flash::{Chip, Chunk, Place, Record, Sizes, Tag};
+use flash::{Chip, Chunk, Record, Sizes, Tag};
 use rules::Row;
 use scan::Refusal;
 use std::alloc::Global;
@@ -8,13 +8,8 @@ use std::process::Abort;
 use std::test::Fail;
 use store::Store;
 
-pub(crate) const SURE: Plan = Plan {
-    fails: 0,
-    damages: 0,
-    takes: 0,
-};
-
-// The first numbers of a header, a cut header and a marker, and the highest number there is.
+// The first numbers of a header, a cut header and a marker, and the highest number there is. Here and below numbers of the
+// rules are written out: tests that took them from the code would say nothing of them.
 pub(crate) const HEAD: u32 = 0x8000_0001;
 
 pub(crate) const CUT: u32 = 0xC000_0001;
@@ -36,12 +31,8 @@ pub(crate) fn tag(first: u32, second: u32, third: u32, serial: u32) -> Tag {
     }
 }
 
-pub(crate) fn at(block: u32, chunk: u32) -> Place {
-    Place { block, chunk }
-}
-
-// Records, made here as in `speed` and `demos`: a function for all would be public, so it could ask nothing of its caller, and
-// would have to refuse long names.
+// Records, made here as in `speed` and `demos`: a function for all would be public, so it could ask nothing of its caller,
+// and would have to refuse long names.
 
 // A record of these numbers, every data byte the same.
 pub(crate) fn raw(tag: Tag, byte: u8) -> Chunk {
@@ -118,12 +109,13 @@ pub(crate) fn running(
     chunks: u32,
     rows: &[Chunk],
 ) -> Result<Store<BenchChip>, Fail> {
-    let mut store = stopped(heap, blocks, chunks, rows, SURE)?;
+    let mut store = stopped(heap, blocks, chunks, rows, Plan::default())?;
     store.mount()?;
     Ok(store)
 }
 
-// What mount answers on a bench chip of these rows; on an image chip of them it answers the same.
+// What mount answers on a bench chip of these rows; on an image chip of them it answers the same. The two numbers
+// are bytes, as an image has them.
 pub(crate) fn verdict(
     rt: &(impl Abort + AllocGlobal),
     blocks: u8,
@@ -131,7 +123,13 @@ pub(crate) fn verdict(
     rows: &[Chunk],
 ) -> Result<Result<(), Refusal>, Fail> {
     let heap = rt.alloc();
-    let mut bench = stopped(heap, u32::from(blocks), u32::from(chunks), rows, SURE)?;
+    let mut bench = stopped(
+        heap,
+        u32::from(blocks),
+        u32::from(chunks),
+        rows,
+        Plan::default(),
+    )?;
     let mut image = attached(heap, chip_in(image_of(heap, blocks, chunks, rows)?)?)?;
     let answer = bench.mount();
     assert_eq!(rt; image.mount(), answer);
@@ -161,12 +159,6 @@ pub(crate) fn refuses_all<C: Chip>(rt: &impl Abort, store: &Store<C>) {
     assert_eq!(rt; answers, [15; 8]);
 }
 
-const NONE: Row = Row {
-    object: 0,
-    length: 0,
-    size: 0,
-};
-
 pub(crate) fn row(object: u32, length: u32, size: u32) -> Row {
     Row {
         object,
@@ -177,7 +169,7 @@ pub(crate) fn row(object: u32, length: u32, size: u32) -> Row {
 
 // The files are these.
 pub(crate) fn lists<C: Chip>(rt: &impl Abort, store: &Store<C>, files: &[Row]) -> Result<(), Fail> {
-    let mut rows = [NONE; 8];
+    let mut rows = [Row::default(); 8];
     let count = store.list(&mut rows)?;
     assert!(rt; count <= 8);
     assert_eq!(rt; &rows[0..count], files);

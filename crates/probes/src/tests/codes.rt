@@ -1,7 +1,15 @@
-use flash::Chunk;
+use flash::{Chunk, Tag};
 use image::ImageChip;
 use std::alloc::Global;
 use std::test::Fail;
+
+// Puts a record's numbers where the bytes of its chunk have them.
+pub(crate) fn put_tag(code: &mut [u8; 2065], tag: Tag) {
+    code[1..5].copy_from_slice(&tag.first.to_le_bytes());
+    code[5..9].copy_from_slice(&tag.second.to_le_bytes());
+    code[9..13].copy_from_slice(&tag.third.to_le_bytes());
+    code[13..17].copy_from_slice(&tag.serial.to_le_bytes());
+}
 
 // The bytes of a chunk in an image, by section 9; of the state bytes that mean damaged this takes 0.
 fn code(chunk: &Chunk) -> [u8; 2065] {
@@ -11,17 +19,14 @@ fn code(chunk: &Chunk) -> [u8; 2065] {
         Chunk::Damaged => code[0] = 0,
         Chunk::Holds(record) => {
             code[0] = 1;
-            code[1..5].copy_from_slice(&record.tag.first.to_le_bytes());
-            code[5..9].copy_from_slice(&record.tag.second.to_le_bytes());
-            code[9..13].copy_from_slice(&record.tag.third.to_le_bytes());
-            code[13..17].copy_from_slice(&record.tag.serial.to_le_bytes());
+            put_tag(&mut code, record.tag);
             code[17..2065].copy_from_slice(&record.bytes);
         }
     }
     code
 }
 
-// The image of a chip of these rows, off.
+// The image of a chip of these rows, off. It has a byte for each of the two numbers, so these are no `Sizes`.
 pub(crate) fn image_of(
     heap: Global,
     blocks: u8,

@@ -1,14 +1,16 @@
-use crate::tests::chips::{BLANK, CUT, HEAD, MARK, MOST, at, raw, tag, verdict};
-use flash::Place;
+use crate::tests::chips::{BLANK, CUT, HEAD, MARK, MOST, raw, tag, verdict};
+use flash::{Place, Sizes};
 use scan::Refusal;
 use std::process::Abort;
 use std::test::Fail;
 
+// The lowest and the highest object number as headers and markers have it, written out as the numbers in `chips` are.
 const LOW: u32 = 0x1000_0101;
 
 const HIGH: u32 = 0x1000_01FF;
 
-// The four numbers of a record and the first byte of its data.
+// The four numbers of a record and the byte of its data: a tuple, since a constant can call no function, and a `Tag` spelled
+// out would take six lines a row.
 type Case = (u32, u32, u32, u32, u8);
 
 // Records that keep the table of section 2, each at the edge of one of its rules.
@@ -77,6 +79,11 @@ const BROKEN: [Case; 39] = [
     (MOST, LOW, 0, 1, 1),
 ];
 
+const SIZES: Sizes = Sizes {
+    blocks: 3,
+    chunks: 2,
+};
+
 // What mount answers on a chip of three blocks of two that has this record alone.
 fn alone(
     rt: &(impl Abort + AllocGlobal),
@@ -85,7 +92,7 @@ fn alone(
 ) -> Result<Result<(), Refusal>, Fail> {
     let (first, second, third, serial, byte) = case;
     let mut rows = [BLANK; 6];
-    let row = place.block as usize * 2 + place.chunk as usize;
+    let row = SIZES.row(place);
     assert!(rt; row < 6);
     rows[row] = raw(tag(first, second, third, serial), byte);
     verdict(rt, 3, 2, &rows)
@@ -100,7 +107,7 @@ fn each_alone<F: Fn(Place) -> Result<(), Refusal>>(
     requires { F.IsAlwaysCallable answer }
 {
     for (i, case) in cases.iter().enumerate() {
-        for place in [at(2, 1), at(0, 0)] {
+        for place in [Place::new(2, 1), Place::new(0, 0)] {
             assert_eq!(rt; alone(rt, *case, place)?, answer(place), "{}", i);
         }
     }

@@ -5,8 +5,8 @@ use scan::Refusal;
 use std::process::Abort;
 use std::test::Fail;
 
-// A chip of bytes that are no image: the number of the refusal is this, and a store over the chip cannot be mounted. The bytes
-// come back unchanged.
+// A chip of bytes that are no image: the number of the refusal is this, and a store over the chip cannot be mounted. The
+// bytes come back unchanged.
 fn refused(rt: &(impl Abort + AllocGlobal), bytes: Vec<u8>, number: u32) -> Result<Vec<u8>, Fail> {
     let length = bytes.len();
     let Err(unmade) = ImageChip::new(bytes) else {

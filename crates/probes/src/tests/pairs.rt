@@ -1,7 +1,8 @@
 use crate::tests::chips::{
-    BLANK, DAMAGED, SURE, at, attached, chip, cut, data, header, marker, raw, tag, told, verdict,
+    BLANK, DAMAGED, attached, chip, cut, data, header, marker, raw, tag, told, verdict,
 };
-use flash::Chunk;
+use bench::Plan;
+use flash::{Chunk, Place};
 use scan::Refusal;
 use std::process::Abort;
 use std::test::Fail;
@@ -53,7 +54,7 @@ fn sizes(rt: HostRuntime) -> Result<(), Fail> {
         (0, 4_294_967_295, 9),
     ] {
         let rows = vec![in rt.alloc(); BLANK; blocks as usize * chunks as usize]?;
-        let mut store = attached(rt.alloc(), chip(rows, blocks, chunks, SURE)?)?;
+        let mut store = attached(rt.alloc(), chip(rows, blocks, chunks, Plan::default())?)?;
         assert_eq!(rt;
             [told(store.mount()), told(store.format())],
             [number; 2],
@@ -69,23 +70,26 @@ fn ten(rt: HostRuntime) -> Result<(), Fail> {
     let name = header(257, 0, 1, b"a");
     let other = header(258, 0, 2, b"a");
     for (rows, place) in [
-        ([BLANK, bad(8), bad(7), BLANK, BLANK, bad(9)], at(0, 1)),
+        (
+            [BLANK, bad(8), bad(7), BLANK, BLANK, bad(9)],
+            Place::new(0, 1),
+        ),
         (
             [bad(7), BLANK, data(512, 1, 5, 7), BLANK, BLANK, BLANK],
-            at(0, 0),
+            Place::new(0, 0),
         ),
         (
             [part(1, 1), part(2, 1), BLANK, BLANK, BLANK, bad(3)],
-            at(2, 1),
+            Place::new(2, 1),
         ),
-        ([name, other, bad(3), BLANK, BLANK, BLANK], at(1, 0)),
+        ([name, other, bad(3), BLANK, BLANK, BLANK], Place::new(1, 0)),
         (
             [name, part(1, 2), part(2, 3), part(3, 4), bad(5), BLANK],
-            at(2, 0),
+            Place::new(2, 0),
         ),
         (
             [name, bad(4), part(1, 2), DAMAGED, part(2, 3), DAMAGED],
-            at(0, 1),
+            Place::new(0, 1),
         ),
     ] {
         expect(&rt, &rows, Err(Refusal::BadRecord(place)))?;
@@ -99,11 +103,11 @@ fn clashes(rt: HostRuntime) -> Result<(), Fail> {
     for (rows, place) in [
         (
             [part(1, 1), part(2, 2), part(3, 2), part(4, 1), BLANK, BLANK],
-            at(1, 0),
+            Place::new(1, 0),
         ),
         (
             [part(1, 1), part(1, 1), BLANK, part(2, 1), BLANK, BLANK],
-            at(1, 1),
+            Place::new(1, 1),
         ),
         (
             [
@@ -114,11 +118,11 @@ fn clashes(rt: HostRuntime) -> Result<(), Fail> {
                 part(2, 1),
                 part(1, 1),
             ],
-            at(2, 0),
+            Place::new(2, 0),
         ),
         (
             [part(1, 1), part(2, 1), part(3, 1), BLANK, BLANK, BLANK],
-            at(0, 1),
+            Place::new(0, 1),
         ),
     ] {
         expect(&rt, &rows, Err(Refusal::SerialClash(place)))?;
@@ -149,7 +153,7 @@ fn unlike(rt: HostRuntime) -> Result<(), Fail> {
         last_byte(),
     ] {
         let rows = [part(1, 7), BLANK, BLANK, other, BLANK, BLANK];
-        expect(&rt, &rows, Err(Refusal::SerialClash(at(1, 1))))?;
+        expect(&rt, &rows, Err(Refusal::SerialClash(Place::new(1, 1))))?;
         let rows = [other, BLANK, BLANK, other, BLANK, other];
         expect(&rt, &rows, Ok(()))?;
     }
@@ -164,11 +168,11 @@ fn eleven(rt: HostRuntime) -> Result<(), Fail> {
     for (rows, place) in [
         (
             [name, other, data(259, 1, 5, 2), BLANK, BLANK, BLANK],
-            at(1, 0),
+            Place::new(1, 0),
         ),
         (
             [name, part(1, 2), part(2, 3), part(3, 4), part(4, 4), BLANK],
-            at(2, 0),
+            Place::new(2, 0),
         ),
         (
             [
@@ -179,7 +183,7 @@ fn eleven(rt: HostRuntime) -> Result<(), Fail> {
                 part(2, 3),
                 DAMAGED,
             ],
-            at(0, 1),
+            Place::new(0, 1),
         ),
     ] {
         expect(&rt, &rows, Err(Refusal::SerialClash(place)))?;

@@ -1,14 +1,15 @@
-use crate::tests::chips::{CUT, HEAD, MARK, MOST, attached, refuses_all, row, told};
-use crate::tests::codes::chip_in;
+use crate::tests::chips::{CUT, HEAD, MARK, MOST, attached, refuses_all, told};
+use crate::tests::codes::{chip_in, put_tag};
 use flash::Tag;
 use image::ImageChip;
 use rules::Row;
+use scan::Refusal;
 use std::alloc::Global;
 use std::process::Abort;
 use std::test::Fail;
 use store::Store;
 
-// Numbers that look random, the same in every run.
+// Numbers that look random, the same in every run: three shifts, with no crate to stand on.
 #[derive(Drop)]
 struct Random(u32);
 
@@ -35,6 +36,8 @@ impl Random {
         }
     }
 }
+
+// What an image's numbers are picked from, written out as the numbers in `chips` are.
 
 const STATES: [u32; 8] = [1, 1, 1, 1, 0xFF, 0xFF, 0xFF, 0];
 
@@ -109,10 +112,7 @@ fn chunk(random: &mut Random, place: u32) -> [u8; 2065] {
     let tag = numbers(random, place);
     let mut bytes = [b'a' + (random.next() % 3) as u8; 2065];
     bytes[0] = (random.pick(&STATES) % 256) as u8;
-    bytes[1..5].copy_from_slice(&tag.first.to_le_bytes());
-    bytes[5..9].copy_from_slice(&tag.second.to_le_bytes());
-    bytes[9..13].copy_from_slice(&tag.third.to_le_bytes());
-    bytes[13..17].copy_from_slice(&tag.serial.to_le_bytes());
+    put_tag(&mut bytes, tag);
     bytes[17] = (random.choose(&NAMES, &NAME_EDGES) % 256) as u8;
     bytes
 }
@@ -160,7 +160,7 @@ fn is_absent(rt: &impl Abort, store: &Store<ImageChip>, object: u32) {
 
 // Every object is a file that list has, in its turn, or is refused by 20.
 fn all_agree(rt: &(impl Abort + AllocGlobal), store: &Store<ImageChip>) -> Result<(), Fail> {
-    let mut rows = [row(0, 0, 0); 6];
+    let mut rows = [Row::default(); 6];
     let count = store.list(&mut rows)?;
     assert!(rt; count <= 6);
     let mut listed = rows[0..count].iter().peekable();
@@ -175,16 +175,15 @@ fn all_agree(rt: &(impl Abort + AllocGlobal), store: &Store<ImageChip>) -> Resul
     Ok(())
 }
 
-// Mounts an image, and answers the verdict's number.
-fn probe(rt: &(impl Abort + AllocGlobal), bytes: Vec<u8>) -> Result<u32, Fail> {
+// What mount answers on an image.
+fn probe(rt: &(impl Abort + AllocGlobal), bytes: Vec<u8>) -> Result<Result<(), Refusal>, Fail> {
     let mut store = attached(rt.alloc(), chip_in(bytes)?)?;
-    let number = told(store.mount());
-    if number == 0 {
-        all_agree(rt, &store)?;
-    } else {
-        refuses_all(rt, &store);
+    let answer = store.mount();
+    match answer {
+        Ok(()) => all_agree(rt, &store)?,
+        Err(_) => refuses_all(rt, &store),
     }
-    Ok(number)
+    Ok(answer)
 }
 
 // Each verdict comes up, and no other.
@@ -194,7 +193,7 @@ fn many(rt: HostRuntime) -> Result<(), Fail> {
     let mut seen = [0u32; 15];
     for _ in 0..600 {
         let bytes = image(rt.alloc(), &mut random)?;
-        let number = probe(&rt, bytes)? as usize;
+        let number = told(probe(&rt, bytes)?) as usize;
         assert!(rt; number < 15);
         seen[number] = seen[number].saturating_add(1);
     }
