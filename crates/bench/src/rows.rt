@@ -8,10 +8,11 @@ use crate::benches::BenchChip;
 use flash::{Act, Chunk, Fault, Place, Record};
 use std::ops::Range;
 
-// Whether all these chunks are blank.
+// Whether all these chunks are blank. One for `image` and `scan` too would take the test with the slice, and so be `all`.
 pub(crate) fn all_blank(chunks: &[Chunk]) -> bool
     ensures { IsTrue result ↔ AllBlank chunks.now }
 {
+    // No `==`: it would compare whole records, for this line alone.
     chunks.iter().all(|chunk| matches!(chunk, Chunk::Blank))
 }
 
