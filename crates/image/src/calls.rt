@@ -84,11 +84,11 @@ impl Chip for ImageChip {
         if !head.on {
             return Err(Fault::Off);
         }
-        if block >= u32::from(head.blocks) {
+        if block >= head.sizes().blocks {
             return Err(Fault::NoSuchPlace);
         }
         // By number: after chunks_exact_mut a proof knows nothing of the bytes that it leaves.
-        for chunk in 0..u32::from(head.chunks) {
+        for chunk in 0..head.sizes().chunks {
             self.mark_blank(head.start_of(Place { block, chunk }));
         }
         Ok(())

@@ -67,7 +67,7 @@ pub(crate) fn code_of(record: &Record) -> [u8; CHUNK]
     chunk
 }
 
-// Whether all these chunks are blank.
+// Whether all these chunks are blank. One for `bench` and `scan` too would take the test with the slice, and so be `all`.
 pub(crate) fn all_blank(chunks: &[[u8; CHUNK]]) -> bool
     ensures { IsTrue result ↔ AllBlank chunks.now }
 {
