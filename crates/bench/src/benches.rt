@@ -10,7 +10,7 @@ pub struct BenchChip {
     pub(crate) sizes: Sizes,
     pub(crate) on: bool,
     pub(crate) plan: Plan,
-    // how many acts are to come up to the one that fails, itself counted; 0 means that none does: no Option, as docs/RULES.md counts a plan so
+    // how many acts are to come up to the one that fails, itself counted; 0 means none: no Option, as of a plan's `fails`
     pub(crate) left: u64,
     // every place has a row
     ghost room: { sizes.blocks * sizes.chunks ≤ vec_len rows },

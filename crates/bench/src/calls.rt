@@ -41,6 +41,7 @@ impl Chip for BenchChip {
         self.count(purpose.at(at))
     }
 
+    #[tactic(auto, using(crate::proofs::Acting::erased))]
     fn erase(&mut self, block: u32) -> Result<(), Fault>
         ensures rules { Erased (state_of self.old) block result (state_of self.new) }
         ensures plan { ByPlan self.old result self.new (EraseActs self.old block self.new) }

@@ -42,6 +42,7 @@ impl BenchChip {
         self.rows
     }
 
+    // Not of `Chip`: the trait has the chip's rules alone, and would ask one method more of whoever writes a chip.
     pub fn is_on(&self) -> bool
         ensures { result ≡ self.now.on }
     {

@@ -6,7 +6,7 @@ use flash::Chunk;
 // When the supply fails, and what the failing act leaves. An act is a program or an erase that is not refused.
 #[derive(Clone, Copy, PartialEq, Eq, Default, Debug)]
 pub struct Plan {
-    // the act that fails, counted from 1 since the chip was made; 0 means none
+    // the act that fails, counted from 1 since the chip was made; 0 means none: no Option, as docs/RULES.md counts a plan so
     pub fails: u64,
     // bit c: chunk c is damaged then, unless it takes its new content
     pub damages: u64,

@@ -8,15 +8,17 @@ use crate::benches::BenchChip;
 use flash::{Act, Chunk, Fault, Place, Record};
 use std::ops::Range;
 
-// Whether all these chunks are blank.
+// Whether all these chunks are blank. One for `image` and `scan` too would take the test with the slice, and so be `all`.
 pub(crate) fn all_blank(chunks: &[Chunk]) -> bool
     ensures { IsTrue result ↔ AllBlank chunks.now }
 {
+    // No `==`: it would compare whole records, for this line alone.
     chunks.iter().all(|chunk| matches!(chunk, Chunk::Blank))
 }
 
 impl BenchChip {
     // The rows of a chunk and all later ones of its block, unless the chip is off or has no such place.
+    #[tactic(auto, using(std::proofs::lemmas::Nat::row_fits))]
     pub(crate) fn rows_from(&self, at: Place) -> Result<Range<usize>, Fault>
         ensures { Found self.now at result }
     {
@@ -26,8 +28,8 @@ impl BenchChip {
         if !self.sizes.has(at) {
             return Err(Fault::NoSuchPlace);
         }
-        let row = at.block as usize * self.sizes.chunks as usize + at.chunk as usize;
-        let end = row + (self.sizes.chunks - at.chunk) as usize;
+        let row = self.sizes.row(at);
+        let end = self.sizes.rows_of(at.block).end;
         Ok(row..end)
     }
 
@@ -70,9 +72,8 @@ impl BenchChip {
         ensures rest { (self.new.sizes ≡ self.old.sizes) × (self.new.plan ≡ self.old.plan) × (self.new.left ≡ self.old.left) × (self.new.on ≡ self.old.on) }
     {
         let fails = self.due();
-        let chunks = self.sizes.chunks as usize;
-        let first = block as usize * chunks;
-        for (c, chunk) in self.rows[first..first + chunks].iter_mut().enumerate() {
+        let rows = self.sizes.rows_of(block);
+        for (c, chunk) in self.rows[rows].iter_mut().enumerate() {
             *chunk = self.plan.leaves(fails, c, *chunk, Chunk::Blank);
         }
     }

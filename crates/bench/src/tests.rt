@@ -5,12 +5,6 @@ use std::alloc::Global;
 use std::process::Abort;
 use std::test::Fail;
 
-const SURE: Plan = Plan {
-    fails: 0,
-    damages: 0,
-    takes: 0,
-};
-
 fn tag(serial: u32) -> Tag {
     Tag {
         first: 1,
@@ -38,10 +32,6 @@ fn chip(rows: Vec<Chunk>, blocks: u32, chunks: u32, plan: Plan) -> Result<BenchC
     made.map_err(|_| Fail::new("the rows do not fit"))
 }
 
-fn at(block: u32, chunk: u32) -> Place {
-    Place { block, chunk }
-}
-
 fn add(chip: &mut BenchChip, at: Place) -> Result<(), Fault> {
     chip.program(Purpose::Adding, at, &record(9))
 }
@@ -57,7 +47,7 @@ fn rows_must_fit(rt: HostRuntime) -> Result<(), Fail> {
             blocks: 3,
             chunks: 4,
         };
-        match BenchChip::new(full(rt.alloc(), count)?, sizes, SURE) {
+        match BenchChip::new(full(rt.alloc(), count)?, sizes, Plan::default()) {
             Ok(chip) => assert!(rt; count == 12 && !chip.is_on()),
             Err(unmade) => {
                 let mut chip = unmade.chip;
@@ -79,12 +69,12 @@ fn rows_must_fit(rt: HostRuntime) -> Result<(), Fail> {
 
 #[test]
 fn none_fails(rt: HostRuntime) -> Result<(), Fail> {
-    let mut chip = chip(full(rt.alloc(), 2)?, 1, 2, SURE)?;
+    let mut chip = chip(full(rt.alloc(), 2)?, 1, 2, Plan::default())?;
     assert_eq!(rt; chip.erase(0), Err(Fault::Off));
     chip.restart();
     for _ in 0..3 {
         assert_eq!(rt; chip.erase(0), Ok(()));
-        assert_eq!(rt; add(&mut chip, at(0, 0)), Ok(()));
+        assert_eq!(rt; add(&mut chip, Place::new(0, 0)), Ok(()));
     }
     assert!(rt; chip.is_on());
     Ok(())
@@ -100,14 +90,14 @@ fn the_first_fails(rt: HostRuntime) -> Result<(), Fail> {
     let mut chip = chip(vec![in rt.alloc(); Chunk::Blank; 2]?, 1, 2, plan)?;
     chip.restart();
     assert_eq!(rt;
-        add(&mut chip, at(0, 0)),
-        Err(Fault::SupplyFailed(Act::Adding(at(0, 0))))
+        add(&mut chip, Place::new(0, 0)),
+        Err(Fault::SupplyFailed(Act::Adding(Place::new(0, 0))))
     );
-    assert_eq!(rt; chip.look(at(0, 0)), Err(Fault::Off));
+    assert_eq!(rt; chip.look(Place::new(0, 0)), Err(Fault::Off));
     chip.restart();
-    expect(&rt, &chip, at(0, 0), Look::Damaged);
-    assert_eq!(rt; add(&mut chip, at(0, 0)), Err(Fault::NotBlank));
-    assert_eq!(rt; add(&mut chip, at(0, 1)), Ok(()));
+    expect(&rt, &chip, Place::new(0, 0), Look::Damaged);
+    assert_eq!(rt; add(&mut chip, Place::new(0, 0)), Err(Fault::NotBlank));
+    assert_eq!(rt; add(&mut chip, Place::new(0, 1)), Ok(()));
     Ok(())
 }
 
@@ -123,16 +113,16 @@ fn the_third_fails(rt: HostRuntime) -> Result<(), Fail> {
     chip.restart();
     assert_eq!(rt; chip.erase(0), Ok(()));
     assert_eq!(rt; chip.erase(1), Err(Fault::NoSuchPlace));
-    assert_eq!(rt; add(&mut chip, at(0, 0)), Ok(()));
+    assert_eq!(rt; add(&mut chip, Place::new(0, 0)), Ok(()));
     chip.restart();
-    assert_eq!(rt; add(&mut chip, at(0, 0)), Err(Fault::NotBlank));
+    assert_eq!(rt; add(&mut chip, Place::new(0, 0)), Err(Fault::NotBlank));
     assert_eq!(rt;
-        add(&mut chip, at(0, 1)),
-        Err(Fault::SupplyFailed(Act::Adding(at(0, 1))))
+        add(&mut chip, Place::new(0, 1)),
+        Err(Fault::SupplyFailed(Act::Adding(Place::new(0, 1))))
     );
     chip.restart();
-    expect(&rt, &chip, at(0, 0), Look::Record(tag(9)));
-    expect(&rt, &chip, at(0, 1), Look::Record(tag(9)));
+    expect(&rt, &chip, Place::new(0, 0), Look::Record(tag(9)));
+    expect(&rt, &chip, Place::new(0, 1), Look::Record(tag(9)));
     assert_eq!(rt; chip.erase(0), Ok(()));
     Ok(())
 }
@@ -148,11 +138,11 @@ fn a_failed_erase_keeps_damages_and_blanks(rt: HostRuntime) -> Result<(), Fail> 
     chip.restart();
     assert_eq!(rt; chip.erase(0), Err(Fault::SupplyFailed(Act::Erasing(0))));
     chip.restart();
-    expect(&rt, &chip, at(0, 0), Look::Record(tag(0)));
-    expect(&rt, &chip, at(0, 1), Look::Damaged);
-    expect(&rt, &chip, at(0, 2), Look::Record(tag(2)));
-    expect(&rt, &chip, at(0, 3), Look::Blank);
-    expect(&rt, &chip, at(1, 0), Look::Record(tag(4)));
+    expect(&rt, &chip, Place::new(0, 0), Look::Record(tag(0)));
+    expect(&rt, &chip, Place::new(0, 1), Look::Damaged);
+    expect(&rt, &chip, Place::new(0, 2), Look::Record(tag(2)));
+    expect(&rt, &chip, Place::new(0, 3), Look::Blank);
+    expect(&rt, &chip, Place::new(1, 0), Look::Record(tag(4)));
     Ok(())
 }
 
@@ -167,10 +157,10 @@ fn bits_end_at_63(rt: HostRuntime) -> Result<(), Fail> {
     chip.restart();
     assert_eq!(rt; chip.erase(0), Err(Fault::SupplyFailed(Act::Erasing(0))));
     chip.restart();
-    expect(&rt, &chip, at(0, 0), Look::Damaged);
-    expect(&rt, &chip, at(0, 62), Look::Damaged);
-    expect(&rt, &chip, at(0, 63), Look::Blank);
-    expect(&rt, &chip, at(0, 64), Look::Record(tag(64)));
-    expect(&rt, &chip, at(0, 69), Look::Record(tag(69)));
+    expect(&rt, &chip, Place::new(0, 0), Look::Damaged);
+    expect(&rt, &chip, Place::new(0, 62), Look::Damaged);
+    expect(&rt, &chip, Place::new(0, 63), Look::Blank);
+    expect(&rt, &chip, Place::new(0, 64), Look::Record(tag(64)));
+    expect(&rt, &chip, Place::new(0, 69), Look::Record(tag(69)));
     Ok(())
 }

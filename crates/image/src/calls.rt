@@ -20,7 +20,7 @@ impl ImageChip {
         if !head.on {
             return Err(Fault::Off);
         }
-        if at.block >= u32::from(head.blocks) || at.chunk >= u32::from(head.chunks) {
+        if !head.sizes().has(at) {
             return Err(Fault::NoSuchPlace);
         }
         Ok(head.rest(at))
@@ -47,11 +47,7 @@ impl Chip for ImageChip {
     ghost model = { state_of };
 
     fn sizes(&self) -> Sizes {
-        let head = self.head();
-        Sizes {
-            blocks: u32::from(head.blocks),
-            chunks: u32::from(head.chunks),
-        }
+        self.head().sizes()
     }
 
     fn look(&self, at: Place) -> Result<Look, Fault> {
@@ -88,12 +84,12 @@ impl Chip for ImageChip {
         if !head.on {
             return Err(Fault::Off);
         }
-        if block >= u32::from(head.blocks) {
+        if block >= head.sizes().blocks {
             return Err(Fault::NoSuchPlace);
         }
         // By number: after chunks_exact_mut a proof knows nothing of the bytes that it leaves.
-        for chunk in 0..u32::from(head.chunks) {
-            self.mark_blank(head.start_of(block, chunk));
+        for chunk in 0..head.sizes().chunks {
+            self.mark_blank(head.start_of(Place { block, chunk }));
         }
         Ok(())
     }

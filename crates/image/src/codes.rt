@@ -16,26 +16,19 @@ pub(crate) const BLANK: u8 = 0xFF;
 
 pub(crate) const RECORD: u8 = 1;
 
-// The number of 32 bits at a byte of a chunk, the lowest byte first.
-fn number(chunk: &[u8; CHUNK], at: usize) -> u32
-    requires { at + 4 ≤ CHUNK }
-    ensures { result ≡ le32 chunk.now at }
-{
-    u32::from_le_bytes(*chunk[at..].first_chunk().unwrap())
-}
-
 // What the bytes of a chunk say.
 pub(crate) fn look_at(chunk: &[u8; CHUNK]) -> Look
     ensures tells { result ≡ look_of (chunk_of chunk.now) }
     ensures whole { WholeChunk (chunk_of chunk.now) }
 {
+    let (numbers, _) = chunk[1..DATA].as_chunks();
     match chunk[0] {
         BLANK => Look::Blank,
         RECORD => Look::Record(Tag {
-            first: number(chunk, 1),
-            second: number(chunk, 5),
-            third: number(chunk, 9),
-            serial: number(chunk, 13),
+            first: u32::from_le_bytes(numbers[0]),
+            second: u32::from_le_bytes(numbers[1]),
+            third: u32::from_le_bytes(numbers[2]),
+            serial: u32::from_le_bytes(numbers[3]),
         }),
         _ => Look::Damaged,
     }
@@ -61,17 +54,20 @@ pub(crate) fn code_of(record: &Record) -> [u8; CHUNK]
         third,
         serial,
     } = *tag;
+    let numbers = [
+        first.to_le_bytes(),
+        second.to_le_bytes(),
+        third.to_le_bytes(),
+        serial.to_le_bytes(),
+    ];
     let mut chunk = [0; CHUNK];
     chunk[0] = RECORD;
-    chunk[1..5].copy_from_slice(&first.to_le_bytes());
-    chunk[5..9].copy_from_slice(&second.to_le_bytes());
-    chunk[9..13].copy_from_slice(&third.to_le_bytes());
-    chunk[13..DATA].copy_from_slice(&serial.to_le_bytes());
+    chunk[1..DATA].copy_from_slice(numbers.as_flattened());
     chunk[DATA..].copy_from_slice(bytes);
     chunk
 }
 
-// Whether all these chunks are blank.
+// Whether all these chunks are blank. One for `bench` and `scan` too would take the test with the slice, and so be `all`.
 pub(crate) fn all_blank(chunks: &[[u8; CHUNK]]) -> bool
     ensures { IsTrue result ↔ AllBlank chunks.now }
 {

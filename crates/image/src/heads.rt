@@ -4,7 +4,7 @@ ghost use Rattle.image.specs.Format.{misfit, start_of};
 ghost use Rattle.image.specs.Heads.{IsHead};
 
 use crate::codes::CHUNK;
-use flash::{Misfit, Place};
+use flash::{Misfit, Place, Sizes};
 use std::ops::Range;
 
 // How many bytes the head takes.
@@ -49,11 +49,21 @@ impl Head {
         })
     }
 
-    // Where a chunk of a block begins.
-    pub(crate) fn start_of(self, block: u32, chunk: u32) -> usize
-        ensures { result ≡ start_of self.chunks block chunk }
+    // How many blocks there are and how many chunks in each, as every chip tells it.
+    pub(crate) fn sizes(self) -> Sizes
+        ensures { result ≡ record { blocks = self.blocks; chunks = self.chunks } }
     {
-        HEAD + (block as usize * self.chunks as usize + chunk as usize) * CHUNK
+        Sizes {
+            blocks: u32::from(self.blocks),
+            chunks: u32::from(self.chunks),
+        }
+    }
+
+    // Where a chunk begins.
+    pub(crate) fn start_of(self, at: Place) -> usize
+        ensures { result ≡ start_of self.chunks at.block at.chunk }
+    {
+        HEAD + self.sizes().row(at) * CHUNK
     }
 
     // Where the bytes of a chunk and of all later ones of its block lie.
@@ -61,8 +71,8 @@ impl Head {
         ensures start { result.start ≡ start_of self.chunks at.block at.chunk }
         ensures end { result.end ≡ start_of self.chunks at.block self.chunks }
     {
-        let start = self.start_of(at.block, at.chunk);
-        let end = self.start_of(at.block, u32::from(self.chunks));
+        let start = self.start_of(at);
+        let end = self.start_of(Place::new(at.block, self.sizes().chunks));
         start..end
     }
 }

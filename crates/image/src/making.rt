@@ -25,6 +25,7 @@ impl ImageChip {
         self.bytes
     }
 
+    // Not of `Chip`: the trait has the chip's rules alone, and would ask one method more of whoever writes a chip.
     pub fn is_on(&self) -> bool
         ensures { result ≡ (state_of self.now).on }
     {

@@ -3,12 +3,11 @@ use crate::images::ImageChip;
 use flash::{Chip, Fault, Look, Place, Purpose, Record, Sizes, Tag};
 use std::test::Fail;
 
-// The number of the refusal of a chip of these bytes, or 0.
-fn refusal(bytes: Vec<u8>) -> u32 {
-    match ImageChip::new(bytes) {
-        Ok(_) => 0,
-        Err(unmade) => unmade.why.number(),
-    }
+// The number of the refusal of a chip of these bytes, if they are refused.
+fn refusal(bytes: Vec<u8>) -> Option<u32> {
+    ImageChip::new(bytes)
+        .err()
+        .map(|unmade| unmade.why.number())
 }
 
 const TAG: Tag = Tag {
@@ -30,15 +29,15 @@ fn chip_of(bytes: Vec<u8>) -> Result<ImageChip, Fail> {
 
 #[test]
 fn heads(rt: HostRuntime) -> Result<(), Fail> {
-    let table: [(&[u8], u32); 8] = [
-        (b"TFS\x01\x00\x00\x00", 1),
-        (b"TFS\x01\x00\x00\x00\x00", 0),
-        (b"TFs\x02\x00\x00\x00\x00", 1),
-        (b"TFS\x02\x00\x01\x01\x00", 2),
-        (b"TFS\x01\x01\x00\x00\x00", 2),
-        (b"TFS\x01\x00\x01\x01\x00", 3),
-        (b"TFS\x01\x00\x00\x09\x00", 0),
-        (b"TFS\x01\x00\x09\x00\x00", 0),
+    let table: [(&[u8], Option<u32>); 8] = [
+        (b"TFS\x01\x00\x00\x00", Some(1)),
+        (b"TFS\x01\x00\x00\x00\x00", None),
+        (b"TFs\x02\x00\x00\x00\x00", Some(1)),
+        (b"TFS\x02\x00\x01\x01\x00", Some(2)),
+        (b"TFS\x01\x01\x00\x00\x00", Some(2)),
+        (b"TFS\x01\x00\x01\x01\x00", Some(3)),
+        (b"TFS\x01\x00\x00\x09\x00", None),
+        (b"TFS\x01\x00\x09\x00\x00", None),
     ];
     for (bytes, number) in table {
         assert_eq!(rt; refusal(Vec::from_slice(rt.alloc(), bytes)?), number);
@@ -51,10 +50,10 @@ fn lengths(rt: HostRuntime) -> Result<(), Fail> {
     let mut long = blank(rt.alloc(), 2, 3)?;
     assert_eq!(rt; long.len(), 12398);
     long.push(0)?;
-    assert_eq!(rt; refusal(long), 3);
+    assert_eq!(rt; refusal(long), Some(3));
     let mut short = blank(rt.alloc(), 2, 3)?;
     let _ = short.pop();
-    assert_eq!(rt; refusal(short), 3);
+    assert_eq!(rt; refusal(short), Some(3));
     Ok(())
 }
 
@@ -65,7 +64,7 @@ fn made_in_spite(rt: HostRuntime) -> Result<(), Fail> {
         return Err(Fail::new("an image"));
     };
     let mut chip = unmade.chip;
-    let at = Place { block: 0, chunk: 0 };
+    let at = Place::new(0, 0);
     assert!(rt;
         chip.is_on()
             && chip.sizes()
@@ -84,8 +83,8 @@ fn made_in_spite(rt: HostRuntime) -> Result<(), Fail> {
 #[test]
 fn programs(rt: HostRuntime) -> Result<(), Fail> {
     let mut chip = chip_of(blank(rt.alloc(), 2, 2)?)?;
-    let at = Place { block: 1, chunk: 0 };
-    assert!(rt; chip.look(Place { block: 9, chunk: 9 }) == Err(Fault::Off));
+    let at = Place::new(1, 0);
+    assert!(rt; chip.look(Place::new(9, 9)) == Err(Fault::Off));
     chip.restart();
     assert!(rt; chip.program(Purpose::Adding, at, &RECORD) == Ok(()));
     assert!(rt; chip.program(Purpose::Adding, at, &RECORD) == Err(Fault::NotBlank));
@@ -100,7 +99,7 @@ fn programs(rt: HostRuntime) -> Result<(), Fail> {
 fn erases(rt: HostRuntime) -> Result<(), Fail> {
     let mut chip = chip_of(blank(rt.alloc(), 2, 2)?)?;
     chip.restart();
-    let at = Place { block: 1, chunk: 0 };
+    let at = Place::new(1, 0);
     assert!(rt; chip.program(Purpose::Adding, at, &RECORD) == Ok(()));
     assert!(rt; chip.erase(1) == Ok(()) && chip.look(at) == Ok(Look::Blank));
     let bytes = chip.into_bytes();
@@ -117,8 +116,8 @@ fn power_and_states(rt: HostRuntime) -> Result<(), Fail> {
     bytes[7] = 2;
     bytes[2073] = 0;
     let mut chip = chip_of(bytes)?;
-    let first = Place { block: 0, chunk: 0 };
-    let last = Place { block: 0, chunk: 1 };
+    let first = Place::new(0, 0);
+    let last = Place::new(0, 1);
     assert!(rt; !chip.is_on() && chip.look(last) == Err(Fault::Off));
     chip.restart();
     assert!(rt; chip.look(last) == Ok(Look::Damaged));
