@@ -153,8 +153,8 @@ erased xs ys b n h i o hb en e =
     record { rules = erase-done xs ys b t.well (on-is xs t.well (sym o ∙ i.power)) t.within e2; bytes = e2 }
 
 -- the power switched on
-pub restart-done : (xs : List ℕ) → well_made xs ≡ true → image_of (set xs 7 1) ≡ started (image_of xs)
-restart-done xs w =
+pub restart_done : (xs : List ℕ) → well_made xs ≡ true → image_of (set xs 7 1) ≡ started (image_of xs)
+restart_done xs w =
     let ys = set xs 7 1 in
     let head : (j : ℕ) → j < 7 → get_or ys j 0 ≡ get_or xs j 0 = λ j h. get_or-set_other xs 7 j 1 0 (let ne : j ≢ 7 = omega arith in ne) in
     let cell : (b c : ℕ) → chunk_of (bytes_at ys (start_of (chunk_count ys) b c)) ≡ chunk_of (bytes_at xs (start_of (chunk_count xs) b c))

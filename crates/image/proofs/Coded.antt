@@ -6,7 +6,7 @@ use Rattle.std.proofs.lemmas.Bool.Decides.{nat_tests}
 use Rattle.flash.specs.declared.chunks.Record.{Record}
 use Rattle.flash.specs.declared.chunks.Chunk.TheVariants.{Blank, Holds}
 use Rattle.flash.specs.Chunks.{Whole}
-use Rattle.image.specs.Format.{data_of, record_of, chunk_of}
+use Rattle.image.specs.Format.{data_of, chunk_of}
 use Rattle.image.specs.Codes.{code_of}
 
 pub blank-told : (ys : List ℕ) → get_or ys 0 0 ≡ 255 → chunk_of ys ≡ Blank
@@ -14,9 +14,6 @@ blank-told ys e = grind (arith, nat_tests)
 
 pub blank-state : (ys : List ℕ) → chunk_of ys ≡ Blank → get_or ys 0 0 ≡ 255
 blank-state ys e = grind (arith, nat_tests)
-
-pub record-told : (ys : List ℕ) → get_or ys 0 0 ≡ 1 → chunk_of ys ≡ Holds (record_of ys)
-record-told ys e = grind (arith, nat_tests)
 
 -- the data of a chunk is all that follows byte 17
 pub all_data : (ys : List ℕ) → length ys ≡ 2065 → take 2048 (data_of ys) ≡ data_of ys

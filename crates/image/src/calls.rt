@@ -94,6 +94,7 @@ impl Chip for ImageChip {
         Ok(())
     }
 
+    #[tactic(auto, using(crate::proofs::Changes::restart_done))]
     fn restart(&mut self)
         ensures rules { state_of self.new ≡ started (state_of self.old) }
         ensures bytes { RestartLeaves self.old self.new }
