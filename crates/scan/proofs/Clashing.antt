@@ -63,13 +63,6 @@ clash-told a b j i {g = g} {h = h} e f =
     (bytes_eq x.0.bytes y.0.bytes, clash-is x.1 y.1 x.2 y.2)
 
 -- a chunk that holds no record clashes with none
-pub clash-none : (x y : Chunk) → ((r : Record) → y ≡ Holds r → ⊥) → clashing x y ≡ false
-clash-none Blank y n = refl
-clash-none Damaged y n = refl
-clash-none (Holds a) Blank n = refl
-clash-none (Holds a) Damaged n = refl
-clash-none (Holds a) (Holds b) n = absurd (n b refl)
-
 pub none-clash : (x : Chunk) → ((r : Record) → x ≡ Holds r → ⊥) → (cs : List Chunk) → any (clashing x) cs ≡ false
 none-clash x n [] = refl
 none-clash Blank n (y ∷ cs) = none-clash Blank n cs

@@ -1,5 +1,5 @@
 -- Names noted on the way. Assumes nothing.
-use Rattle.std.proofs.Common.{◌≡◌, ℕ, Bool, true, false, cond, ◌&&◌, eqb, List, [], ◌∷◌, get_or, sym, refl, ap, ◌∙◌}
+use Rattle.std.proofs.Common.{◌≡◌, ℕ, Bool, true, false, cond, ◌&&◌, eqb, List, [], ◌∷◌, get_or, Some, None, sym, refl, ap, ◌∙◌}
 use Rattle.std.proofs.lemmas.Bool.{cond-true, cond-false}
 use Rattle.flash.specs.declared.chunks.Chunk.TheVariants.{Holds}
 use Rattle.flash.specs.declared.chunks.Look.{Look}
@@ -32,7 +32,7 @@ unfolding object kind
 object-by r t e = ap (λ (z : Tag). object (bare_tag z)) e
 
 module _ (s : State) (rows : List Look) (k : ℕ) (t : Tag) (before : Entries) (b : Bool) (kind-is : b ≡ is_header (kind_by t.first)) where
-  pub header-first : (bytes : List ℕ) (after : Entries) → HasData s k t bytes → b ≡ true → NotedIf rows t bytes before after → FirstOf s rows k t before (get_or bytes 0 0) after
+  pub header-first : (bytes : List ℕ) (after : Entries) → HasData s k t bytes → b ≡ true → NotedIf rows t bytes before after → FirstOf s rows k t before (Some (get_or bytes 0 0)) after
   header-first bytes after d h n =
       let hd : is_header (kind d.found) ≡ true = header-by d.found t d.tag ∙ sym kind-is ∙ h in
       let filed : filed_by rows d.found ≡ filed_by rows (bare_tag t) = ap (λ (z : Tag). filed_by rows (bare_tag z)) d.tag in
@@ -40,11 +40,11 @@ module _ (s : State) (rows : List Look) (k : ℕ) (t : Tag) (before : Entries) (
         found = d.found;
         here = d.here;
         tag = d.tag;
-        first = first-is bytes ∙ ap first_byte d.copied ∙ sym (cond-true (is_header (kind d.found)) _ _ hd);
+        first = ap Some (first-is bytes ∙ ap first_byte d.copied) ∙ sym (cond-true (is_header (kind d.found)) _ _ hd);
         named = λ o. rw (d.here, hd, filed, object-by d.found t d.tag, ← d.copied) (n o);
       }
 
-  pub other-first : (r : Record) → row_of s k ≡ Holds r → r.tag ≡ t → b ≡ false → FirstOf s rows k t before 0 before
+  pub other-first : (r : Record) → row_of s k ≡ Holds r → r.tag ≡ t → b ≡ false → FirstOf s rows k t before None before
   other-first r e g h =
       let hd : is_header (kind r) ≡ false = header-by r t g ∙ sym kind-is ∙ h in
       record {

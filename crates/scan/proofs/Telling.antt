@@ -15,8 +15,7 @@ use Rattle.flash.specs.Chunks.{look_of}
 use Rattle.flash.specs.Model.{State, blocks_of}
 use Rattle.flash.specs.Reads.{NotFetched}
 use Rattle.scan.specs.Flat.{flat}
-use Rattle.scan.specs.Tables.{PlaceOf}
-use Rattle.scan.specs.Tables.{TableOf, row_of}
+use Rattle.scan.specs.Tables.{TableOf, row_of, Recordless, PlaceOf}
 use Rattle.scan.proofs.Rows.{row_block, row-chunk, row_is}
 use Rattle.scan.proofs.Flat.{flat-long, flat-cell, looks_long, looks-at}
 
@@ -63,7 +62,7 @@ module _ {s : State} {z : Sizes} {rows : List Look} (t : TableOf s z rows) where
       by-chunk Damaged p = absurd (let w = row-tells s z rows k t in let v = ap look_of p in cc)
       by-chunk (Holds r) p = (r, p, let w = row-tells s z rows k t in let v = ap look_of p in cc)
 
-  pub untold : (k : ℕ) → ((g : Tag) → get_or rows k BlankL ≡ RecordL g → ⊥) → (r : Record) → row_of s k ≡ Holds r → ⊥
+  pub untold : (k : ℕ) → ((g : Tag) → get_or rows k BlankL ≡ RecordL g → ⊥) → Recordless s k
   untold k n r e = n r.tag (row-tells s z rows k t ∙ ap look_of e)
 
   -- a fetch of a record that is there, from a chip that is on, is not refused

@@ -22,6 +22,10 @@ pub record TableOf (s : State) (z : Sizes) (rows : List Look) : Type 0 where
 abbrev pub row_of : State → ℕ → Chunk
 row_of s k = slice_index_or (flat (blocks_of s)) k Blank
 
+-- that chunk holds no record
+abbrev pub Recordless : State → ℕ → Type 0
+Recordless s k = (r : Record) → row_of s k ≡ Holds r → ⊥
+
 -- where the chunk of row k stands
 pub record PlaceOf (s : State) (k : ℕ) (q : Place) : Type 0 where
   pub block : q.block ≡ k / s.p
