@@ -1,7 +1,6 @@
 -- Names noted on the way. Assumes nothing.
 use Rattle.std.proofs.Common.{◌≡◌, ℕ, Bool, true, false, cond, ◌&&◌, eqb, List, [], ◌∷◌, get_or, Some, None, sym, refl, ap, ◌∙◌}
 use Rattle.std.proofs.lemmas.Bool.{cond-true, cond-false}
-use Rattle.flash.specs.declared.chunks.Chunk.TheVariants.{Holds}
 use Rattle.flash.specs.declared.chunks.Look.{Look}
 use Rattle.flash.specs.declared.chunks.Record.{Record}
 use Rattle.flash.specs.declared.chunks.Tag.{Tag}
@@ -12,7 +11,7 @@ use Rattle.tags.specs.Bare.{bare_tag}
 use Rattle.names.specs.Names.{Entries, name_at, name_from}
 use Rattle.scan.specs.Checks.{filed_by, FirstOf}
 use Rattle.scan.specs.Tables.{HasData}
-use Rattle.scan.specs.Tables.{row_of}
+use Rattle.scan.proofs.Telling.{Recorded}
 
 -- the name in a header's data noted, if the header with this tag is its file's
 abbrev pub NotedIf : List Look → Tag → List ℕ → Entries → Entries → Type 0
@@ -44,13 +43,13 @@ module _ (s : State) (rows : List Look) (k : ℕ) (t : Tag) (before : Entries) (
         named = λ o. rw (d.here, hd, filed, object-by d.found t d.tag, ← d.copied) (n o);
       }
 
-  pub other-first : (r : Record) → row_of s k ≡ Holds r → r.tag ≡ t → b ≡ false → FirstOf s rows k t before None before
-  other-first r e g h =
-      let hd : is_header (kind r) ≡ false = header-by r t g ∙ sym kind-is ∙ h in
+  pub other-first : Recorded s k t → b ≡ false → FirstOf s rows k t before None before
+  other-first r h =
+      let hd : is_header (kind r.found) ≡ false = header-by r.found t r.tag ∙ sym kind-is ∙ h in
       record {
-        found = r;
-        here = e;
-        tag = g;
-        first = sym (cond-false (is_header (kind r)) _ _ hd);
-        named = λ o. rw (e, hd) refl;
+        found = r.found;
+        here = r.here;
+        tag = r.tag;
+        first = sym (cond-false (is_header (kind r.found)) _ _ hd);
+        named = λ o. rw (r.here, hd) refl;
       }

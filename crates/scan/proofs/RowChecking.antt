@@ -10,10 +10,10 @@ use Rattle.flash.specs.declared.chunks.Sizes.{Sizes}
 use Rattle.flash.specs.Model.{State, blocks_of}
 use Rattle.names.specs.Names.{Entries, name_at}
 use Rattle.scan.specs.Flat.{flat}
-use Rattle.scan.specs.Tables.{TableOf, row_of, Recordless}
+use Rattle.scan.specs.Tables.{TableOf, row_of, tag_at}
 use Rattle.scan.specs.Checks.{filed_by, note_of, noted, RowChecked, AllChecked, KeepTo}
 use Rattle.scan.proofs.Flat.{flat-long}
-use Rattle.scan.proofs.Telling.{rows_long}
+use Rattle.scan.proofs.Telling.{rows_long, recordless}
 
 -- a row that tells of no record
 no_note : (filed : Record → Bool) (o : ℕ) (x : Chunk) (was : Option (List ℕ)) → ((r : Record) → x ≡ Holds r → ⊥) → was ≡ note_of filed o x was
@@ -21,8 +21,8 @@ no_note filed o Blank was n = refl
 no_note filed o Damaged was n = refl
 no_note filed o (Holds r) was n = absurd (n r refl)
 
-pub row-passed : (s : State) (rows : List Look) (i : ℕ) (names : Entries) → Recordless s i → RowChecked s rows i names (Ok tt) names
-row-passed s rows i names n = ((λ r e. absurd (n r e)), λ o. no_note (filed_by rows) o (row_of s i) (name_at names o) n)
+pub row-passed : (s : State) (rows : List Look) (i : ℕ) (names : Entries) → tag_at s i ≡ None → RowChecked s rows i names (Ok tt) names
+row-passed s rows i names n = ((λ r e. absurd (recordless s i n r e)), λ o. no_note (filed_by rows) o (row_of s i) (name_at names o) (recordless s i n))
 
 -- the rows below i checked: their records keep the rules, and what the names noted give with the rows from i on is what all rows give
 abbrev pub CheckedTo : State → List Look → ℕ → Entries → Type 0
