@@ -11,11 +11,8 @@ use Rattle.std.proofs.lemmas.List.Recursion.{or_at, or_from_places}
 use Rattle.std.proofs.lemmas.Bool.{both_ways, or_parts, or_cases}
 use Rattle.flash.specs.Model.{State, blocks_of}
 use Rattle.scan.specs.Flat.{flat}
-use Rattle.flash.specs.declared.chunks.Look.{Look}
-use Rattle.flash.specs.declared.chunks.Look.TheVariants.{Blank as BlankL, Record as RecordL}
-use Rattle.flash.specs.declared.chunks.Sizes.{Sizes}
-use Rattle.scan.specs.Tables.{TableOf, row_of}
-use Rattle.scan.proofs.Telling.{told}
+use Rattle.scan.specs.Tables.{row_of}
+use Rattle.scan.proofs.Telling.{Recorded}
 use Rattle.scan.proofs.Flat.{flat-long}
 use Rattle.scan.proofs.Placed.{placed_from, placed-rows, none_here, some-here, same_place}
 use Rattle.rules.specs.Mounting.{same_record, unlike, first_clash, placed}
@@ -55,21 +52,10 @@ pub clash-is : {x y : Chunk} {a b : Record} {t u : Tag} → x ≡ Holds a → y 
 clash-is {a = a} {b = b} p q e f = rw (p, q, ← e, ← f) (unlike-is a b)
 
 -- the same of what two rows tell, as far as the tags say it
-pub clash-told : {s u : State} {z w : Sizes} {rows others : List Look} (a : TableOf s z rows) (b : TableOf u w others) (j i : ℕ) {g h : Tag} → get_or rows j BlankL ≡ RecordL g → get_or others i BlankL ≡ RecordL h
-    → (v : Bool) × (clashing (row_of s j) (row_of u i) ≡ (eqb g.serial h.serial && not (same_tag g h && v)))
-clash-told a b j i {g = g} {h = h} e f =
-    let x = told a j g e in
-    let y = told b i h f in
-    (bytes_eq x.0.bytes y.0.bytes, clash-is x.1 y.1 x.2 y.2)
+pub clash-told : {s u : State} {j i : ℕ} {g h : Tag} → Recorded s j g → Recorded u i h → (v : Bool) × (clashing (row_of s j) (row_of u i) ≡ (eqb g.serial h.serial && not (same_tag g h && v)))
+clash-told x y = (bytes_eq x.found.bytes y.found.bytes, clash-is x.here y.here x.tag y.tag)
 
 -- a chunk that holds no record clashes with none
-pub clash-none : (x y : Chunk) → ((r : Record) → y ≡ Holds r → ⊥) → clashing x y ≡ false
-clash-none Blank y n = refl
-clash-none Damaged y n = refl
-clash-none (Holds a) Blank n = refl
-clash-none (Holds a) Damaged n = refl
-clash-none (Holds a) (Holds b) n = absurd (n b refl)
-
 pub none-clash : (x : Chunk) → ((r : Record) → x ≡ Holds r → ⊥) → (cs : List Chunk) → any (clashing x) cs ≡ false
 none-clash x n [] = refl
 none-clash Blank n (y ∷ cs) = none-clash Blank n cs

@@ -1,21 +1,19 @@
 -- One row checked, and all rows. Assumes nothing.
-use Rattle.std.proofs.Common.{◌≡◌, ℕ, ◌+◌, ◌<◌, ◌≤◌, Bool, ◌≢◌, List, length, get_or, drop, None, Ok, Option, sym, refl, ap, ◌∙◌, ⊎_elim, arith}
+use Rattle.std.proofs.Common.{◌≡◌, ℕ, ◌+◌, ◌<◌, ◌≤◌, Bool, ◌≢◌, List, length, drop, None, Ok, Option, sym, refl, ap, ◌∙◌, ⊎_elim, arith}
 use Rattle.std.proofs.lemmas.List.{at_drop_more, at_drop_all}
 use Rattle.std.proofs.lemmas.Bool.{cases_eq}
 use Rattle.flash.specs.declared.chunks.Chunk.{Chunk}
 use Rattle.flash.specs.declared.chunks.Chunk.TheVariants.{Blank, Damaged, Holds}
 use Rattle.flash.specs.declared.chunks.Look.{Look}
-use Rattle.flash.specs.declared.chunks.Look.TheVariants.{Blank as BlankL, Record as RecordL}
 use Rattle.flash.specs.declared.chunks.Record.{Record}
 use Rattle.flash.specs.declared.chunks.Sizes.{Sizes}
-use Rattle.flash.specs.declared.chunks.Tag.{Tag}
 use Rattle.flash.specs.Model.{State, blocks_of}
 use Rattle.names.specs.Names.{Entries, name_at}
 use Rattle.scan.specs.Flat.{flat}
-use Rattle.scan.specs.Tables.{TableOf, row_of}
+use Rattle.scan.specs.Tables.{TableOf, row_of, tag_at}
 use Rattle.scan.specs.Checks.{filed_by, note_of, noted, RowChecked, AllChecked, KeepTo}
 use Rattle.scan.proofs.Flat.{flat-long}
-use Rattle.scan.proofs.Telling.{rows_long, untold}
+use Rattle.scan.proofs.Telling.{rows_long, recordless}
 
 -- a row that tells of no record
 no_note : (filed : Record → Bool) (o : ℕ) (x : Chunk) (was : Option (List ℕ)) → ((r : Record) → x ≡ Holds r → ⊥) → was ≡ note_of filed o x was
@@ -23,10 +21,8 @@ no_note filed o Blank was n = refl
 no_note filed o Damaged was n = refl
 no_note filed o (Holds r) was n = absurd (n r refl)
 
-pub row-passed : {s : State} {z : Sizes} {rows : List Look} (t : TableOf s z rows) (i : ℕ) (names : Entries) → ((g : Tag) → get_or rows i BlankL ≡ RecordL g → ⊥) → RowChecked s rows i names (Ok tt) names
-row-passed {s = s} {rows = rows} t i names n =
-    let m = untold t i n in
-    ((λ r e. absurd (m r e)), λ o. no_note (filed_by rows) o (row_of s i) (name_at names o) m)
+pub row-passed : (s : State) (rows : List Look) (i : ℕ) (names : Entries) → tag_at s i ≡ None → RowChecked s rows i names (Ok tt) names
+row-passed s rows i names n = ((λ r e. absurd (recordless s i n r e)), λ o. no_note (filed_by rows) o (row_of s i) (name_at names o) (recordless s i n))
 
 -- the rows below i checked: their records keep the rules, and what the names noted give with the rows from i on is what all rows give
 abbrev pub CheckedTo : State → List Look → ℕ → Entries → Type 0

@@ -1,6 +1,7 @@
 -- What a row of a table tells of its chunk, and the chunk at its place. Assumes nothing.
-use Rattle.std.proofs.Common.{◌≡◌, ℕ, ◌*◌, ◌/◌, ◌%◌, ◌<◌, ◌≤◌, List, length, get_or, sym, refl, ap, ◌∙◌, ⊎_elim, arith}
+use Rattle.std.proofs.Common.{◌≡◌, ℕ, ◌*◌, ◌/◌, ◌%◌, ◌<◌, ◌≤◌, List, length, get_or, Some, None, Option, sym, refl, ap, ◌∙◌, ⊎_elim, arith}
 use Rattle.std.proofs.lemmas.Bool.{both_ways}
+use Rattle.std.proofs.lemmas.Option.{none-some}
 use Rattle.flash.specs.declared.chunks.Tag.{Tag}
 use Rattle.flash.specs.declared.chunks.Place.{Place}
 use Rattle.flash.specs.declared.chunks.Sizes.{Sizes}
@@ -8,15 +9,14 @@ use Rattle.flash.specs.declared.chunks.Record.{Record}
 use Rattle.flash.specs.declared.chunks.Chunk.{Chunk}
 use Rattle.flash.specs.declared.chunks.Chunk.TheVariants.{Blank, Damaged, Holds}
 use Rattle.flash.specs.declared.chunks.Look.{Look}
-use Rattle.flash.specs.declared.chunks.Look.TheVariants.{Blank as BlankL, Record as RecordL}
+use Rattle.flash.specs.declared.chunks.Look.TheVariants.{Blank as BlankL}
 use Rattle.flash.specs.declared.faults.Fault.{Fault}
 use Rattle.flash.specs.declared.faults.Fault.TheVariants.{Off, NoSuchPlace, NotBlank, SupplyFailed, NoRecord}
-use Rattle.flash.specs.Chunks.{look_of}
+use Rattle.flash.specs.Chunks.{look_of, tag_in}
 use Rattle.flash.specs.Model.{State, blocks_of}
 use Rattle.flash.specs.Reads.{NotFetched}
 use Rattle.scan.specs.Flat.{flat}
-use Rattle.scan.specs.Tables.{PlaceOf}
-use Rattle.scan.specs.Tables.{TableOf, row_of}
+use Rattle.scan.specs.Tables.{TableOf, row_of, tag_at, PlaceOf}
 use Rattle.scan.proofs.Rows.{row_block, row-chunk, row_is}
 use Rattle.scan.proofs.Flat.{flat-long, flat-cell, looks_long, looks-at}
 
@@ -33,6 +33,26 @@ pub row-cell : (s : State) (k : ℕ) → k < s.n * s.p → s.cells (k / s.p) (k 
 row-cell s k h =
     sym (flat-cell s (k / s.p) (k % s.p) (row_block s.n s.p k h) (row-chunk s.n s.p k h))
     ∙ ap (λ (z : ℕ). get_or (flat (blocks_of s)) z Blank) (row_is s.p k)
+
+-- the record that a row tells of, or none
+pub record Recorded (s : State) (k : ℕ) (g : Tag) : Type 0 where
+  pub found : Record
+  pub here : row_of s k ≡ Holds found
+  pub tag : found.tag ≡ g
+
+pub recorded : {s : State} {k : ℕ} {g : Tag} → tag_at s k ≡ Some g → Recorded s k g
+recorded {s = s} {k = k} {g = g} e = by-chunk (row_of s k) refl
+  where
+    tells : (x : Chunk) → row_of s k ≡ x → tag_in (look_of x) ≡ Some g
+    tells x p = ap (λ (y : Chunk). tag_in (look_of y)) (sym p) ∙ e
+
+    by-chunk : (x : Chunk) → row_of s k ≡ x → Recorded s k g
+    by-chunk Blank p = absurd (none-some g (tells Blank p))
+    by-chunk Damaged p = absurd (none-some g (tells Damaged p))
+    by-chunk (Holds r) p = record { found = r; here = p; tag = (let e = tells (Holds r) p in cc) }
+
+pub recordless : (s : State) (k : ℕ) → tag_at s k ≡ None → (r : Record) → row_of s k ≡ Holds r → ⊥
+recordless s k n r h = none-some r.tag (sym n ∙ ap (λ (x : Chunk). tag_in (look_of x)) h)
 
 module _ {s : State} {z : Sizes} {rows : List Look} (t : TableOf s z rows) where
   -- a row has a place
@@ -54,17 +74,9 @@ module _ {s : State} {z : Sizes} {rows : List Look} (t : TableOf s z rows) where
         here = ap (λ (a : ℕ). s.cells a q.chunk) b ∙ ap (s.cells (k / s.p)) c ∙ row-cell s k l;
       }
 
-  -- the record that a row tells of
-  pub told : (k : ℕ) (g : Tag) → get_or rows k BlankL ≡ RecordL g → (r : Record) × (row_of s k ≡ Holds r) × (r.tag ≡ g)
-  told k g e = by-chunk (row_of s k) refl
-    where
-      by-chunk : (x : Chunk) → row_of s k ≡ x → (r : Record) × (row_of s k ≡ Holds r) × (r.tag ≡ g)
-      by-chunk Blank p = absurd (let w = row-tells s z rows k t in let v = ap look_of p in cc)
-      by-chunk Damaged p = absurd (let w = row-tells s z rows k t in let v = ap look_of p in cc)
-      by-chunk (Holds r) p = (r, p, let w = row-tells s z rows k t in let v = ap look_of p in cc)
-
-  pub untold : (k : ℕ) → ((g : Tag) → get_or rows k BlankL ≡ RecordL g → ⊥) → (r : Record) → row_of s k ≡ Holds r → ⊥
-  untold k n r e = n r.tag (row-tells s z rows k t ∙ ap look_of e)
+  -- the four numbers in a row are those of the chip's record
+  pub row-tag : (k : ℕ) (l : Look) (o : Option Tag) → get_or rows k BlankL ≡ l → o ≡ tag_in l → tag_at s k ≡ o
+  row-tag k l o e h = sym (h ∙ ap tag_in (sym e ∙ row-tells s z rows k t))
 
   -- a fetch of a record that is there, from a chip that is on, is not refused
   pub fetched : (k : ℕ) (q : Place) (r : Record) (f : Fault) → PlaceOf s k q → row_of s k ≡ Holds r → NotFetched s q f → ⊥

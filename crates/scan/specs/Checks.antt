@@ -1,5 +1,5 @@
 -- The check of every record's rules, and the names that it notes on the way. Assumes nothing.
-use Rattle.std.specs.Prelude.{◌≡◌, ℕ, ◌*◌, ◌/◌, ◌%◌, ◌<◌, Bool, true, false, cond, ◌&&◌, List, [], ◌∷◌, None, Ok, Err, Option, Result, ◌==◌}
+use Rattle.std.specs.Prelude.{◌≡◌, ℕ, ◌*◌, ◌/◌, ◌%◌, ◌<◌, Bool, true, false, cond, ◌&&◌, List, [], ◌∷◌, Some, None, Ok, Err, Option, Result, ◌==◌}
 use Rattle.flash.specs.declared.chunks.Chunk.{Chunk}
 use Rattle.flash.specs.declared.chunks.Chunk.TheVariants.{Blank, Damaged, Holds}
 use Rattle.flash.specs.declared.chunks.Look.{Look}
@@ -33,19 +33,19 @@ abbrev pub noted : (Record → Bool) → ℕ → Option (List ℕ) → List Chun
 noted filed o was [] = was
 noted filed o was (x ∷ xs) = noted filed o (note_of filed o x was) xs
 
--- the first byte of a record's data, or 0 where it is no header
-abbrev pub first_if : Record → ℕ
-first_if r = cond (is_header (kind r)) (first_byte r.bytes) 0
+-- the first byte of a header's data
+abbrev pub first_if : Record → Option ℕ
+first_if r = cond (is_header (kind r)) (Some (first_byte r.bytes)) None
 
 -- that byte told of the record with these four numbers that is in row k, and its name noted
-pub record FirstOf (s : State) (rows : List Look) (k : ℕ) (t : Tag) (before : Entries) (v : ℕ) (after : Entries) : Type 0 where
+pub record FirstOf (s : State) (rows : List Look) (k : ℕ) (t : Tag) (before : Entries) (v : Option ℕ) (after : Entries) : Type 0 where
   pub found : Record
   pub here : row_of s k ≡ Holds found
   pub tag : found.tag ≡ t
   pub first : v ≡ first_if found
   pub named : (o : ℕ) → name_at after o ≡ note_of (filed_by rows) o (row_of s k) (name_at before o)
 
-abbrev pub FirstNoted : State → List Look → ℕ → Tag → Entries → Result ℕ Fault → Entries → Type 0
+abbrev pub FirstNoted : State → List Look → ℕ → Tag → Entries → Result (Option ℕ) Fault → Entries → Type 0
 FirstNoted s rows k t before (Ok v) after = FirstOf s rows k t before v after
 FirstNoted s rows k t before (Err f) after = ⊥
 

@@ -1,5 +1,5 @@
 -- A table of a chip: what a look tells of each chunk, in rising place. Assumes nothing.
-use Rattle.std.specs.Prelude.{◌≡◌, ℕ, ◌/◌, ◌%◌, true, List, Ok, Err, Result, slice_index_or}
+use Rattle.std.specs.Prelude.{◌≡◌, ℕ, ◌/◌, ◌%◌, true, List, Ok, Err, Option, Result, slice_index_or}
 use Rattle.flash.specs.declared.chunks.Chunk.{Chunk}
 use Rattle.flash.specs.declared.chunks.Chunk.TheVariants.{Blank, Holds}
 use Rattle.flash.specs.declared.chunks.Look.{Look}
@@ -8,6 +8,7 @@ use Rattle.flash.specs.declared.chunks.Record.{Record}
 use Rattle.flash.specs.declared.chunks.Sizes.{Sizes}
 use Rattle.flash.specs.declared.chunks.Tag.{Tag}
 use Rattle.flash.specs.declared.faults.Fault.{Fault}
+use Rattle.flash.specs.Chunks.{look_of, tag_in}
 use Rattle.flash.specs.Model.{State, blocks_of}
 use Rattle.flash.specs.Reads.{Sized, Within}
 use Rattle.scan.specs.Flat.{flat, looks_of}
@@ -21,6 +22,10 @@ pub record TableOf (s : State) (z : Sizes) (rows : List Look) : Type 0 where
 -- the chunk that row k tells of
 abbrev pub row_of : State → ℕ → Chunk
 row_of s k = slice_index_or (flat (blocks_of s)) k Blank
+
+-- the four numbers of the record that row k tells of
+abbrev pub tag_at : State → ℕ → Option Tag
+tag_at s k = tag_in (look_of (row_of s k))
 
 -- where the chunk of row k stands
 pub record PlaceOf (s : State) (k : ℕ) (q : Place) : Type 0 where

@@ -1,11 +1,12 @@
-ghost use Rattle.std.specs.Prelude.{◌≡◌, [], ◌∷◌};
+ghost use Rattle.std.specs.Prelude.{◌≡◌};
+ghost use Rattle.std.specs.Option.{option_to_list};
 ghost use Rattle.rules.specs.Records.{rules_by, keeps_rules};
 ghost use Rattle.names.specs.Names.{entries_of};
 ghost use Rattle.scan.specs.Checks.{FirstNoted, RowChecked, RowsChecked};
 
 use crate::refusals::Refusal;
 use crate::tables::{Entry, Scan};
-use flash::{Chip, Fault, Look, Tag};
+use flash::{Chip, Fault, Tag};
 use names::Names;
 use rules::{
     CHUNK_BYTES, FIRST_OBJECT, Kind, LAST_NUMBER, LAST_OBJECT, LONGEST_NAME, OBJECT_BASE, is_object,
@@ -13,9 +14,9 @@ use rules::{
 use table::in_file;
 use tags::{kind_of, object_of};
 
-// The rules of a record of this kind, by its numbers and the first byte of its data.
-fn rules_by(kind: Kind, tag: &Tag, first: u8) -> bool
-    ensures { result ≡ rules_by (record { tag = tag.now; bytes = first ∷ [] }) kind }
+// The rules of a record of this kind, by its numbers and the first byte of its data, if that was read.
+fn rules_by(kind: Kind, tag: &Tag, first: Option<u8>) -> bool
+    ensures { result ≡ rules_by (record { tag = tag.now; bytes = option_to_list first }) kind }
 {
     let heads = (OBJECT_BASE + FIRST_OBJECT..=OBJECT_BASE + LAST_OBJECT).contains(&tag.second);
     match kind {
@@ -25,7 +26,9 @@ fn rules_by(kind: Kind, tag: &Tag, first: u8) -> bool
                 && (1..=CHUNK_BYTES).contains(&(tag.third as usize))
         }
         Kind::Header | Kind::CutHeader => {
-            heads && tag.third <= LAST_NUMBER && (1..=LONGEST_NAME).contains(&usize::from(first))
+            heads
+                && tag.third <= LAST_NUMBER
+                && first.is_some_and(|length| (1..=LONGEST_NAME).contains(&usize::from(length)))
         }
         Kind::Marker => heads && tag.third == 0,
         Kind::Other => false,
@@ -34,25 +37,25 @@ fn rules_by(kind: Kind, tag: &Tag, first: u8) -> bool
 
 // Whether a record keeps the rules; the first byte of its data counts for headers alone.
 #[tactic(auto, unfolding(rules::specs::Records::keeps_rules, rules::specs::Records::kind))]
-fn keeps_rules(tag: &Tag, first: u8) -> bool
-    ensures { result ≡ keeps_rules (record { tag = tag.now; bytes = first ∷ [] }) }
+fn keeps_rules(tag: &Tag, first: Option<u8>) -> bool
+    ensures { result ≡ keeps_rules (record { tag = tag.now; bytes = option_to_list first }) }
 {
     tag.serial != 0 && rules_by(kind_of(tag), tag, first)
 }
 
 impl<C: Chip> Entry<'_, '_, C> {
-    // Notes the name in a header that is its file's, and tells the first byte of its data; of other records 0.
-    fn first_byte(&self, names: &mut Names) -> Result<u8, Fault>
+    // Notes the name in a header that is its file's, and tells the first byte of its data; other records' data stay unread.
+    fn first_byte(&self, names: &mut Names) -> Result<Option<u8>, Fault>
         ensures { FirstNoted (C.Chip.model self.now.scan.now.chip.now) self.now.scan.now.rows.now self.now.row self.now.tag (entries_of names.old) result (entries_of names.new) }
     {
         if !kind_of(&self.tag).is_header() {
-            return Ok(0);
+            return Ok(None);
         }
         let data = self.data()?;
         if in_file(self.scan.rows, &self.tag) {
             names.note(object_of(&self.tag), &data);
         }
-        Ok(data[0])
+        Ok(Some(data[0]))
     }
 
     // Checks the record, and notes its name.
@@ -74,13 +77,8 @@ impl<C: Chip> Scan<'_, C> {
     {
         names.clear();
         for (row, look) in self.rows.iter().enumerate() {
-            let Look::Record(tag) = *look else {
+            let Some(entry) = self.entry(row, *look) else {
                 continue;
-            };
-            let entry = Entry {
-                scan: self,
-                row,
-                tag,
             };
             entry.check(names)?;
         }

@@ -3,10 +3,10 @@ ghost use Rattle.scan.specs.Clashes.{Clash, DataAlike, ClashBefore, Clashed};
 ghost use Rattle.scan.specs.Tables.{row_of};
 
 use crate::tables::{Entry, Scan};
-use flash::{Chip, Fault, Look, Place};
+use flash::{Chip, Fault, Place};
 
 impl<C: Chip> Entry<'_, '_, C> {
-    // Whether two records have the same data bytes. By itself, since within `clashes_with` the buffers were cleared for every pair.
+    // Whether two records have the same data bytes. By itself: within `clashes_with` the buffers were cleared for every pair.
     fn same_data(&self, other: &Entry<'_, '_, C>) -> Result<bool, Fault>
         ensures { DataAlike (row_of (C.Chip.model self.now.scan.now.chip.now) self.now.row) (row_of (C.Chip.model other.now.scan.now.chip.now) other.now.row) result }
     {
@@ -28,13 +28,8 @@ impl<C: Chip> Entry<'_, '_, C> {
         ensures { ClashBefore (C.Chip.model self.now.scan.now.chip.now) self.now.row result }
     {
         for (row, look) in self.scan.rows[..self.row].iter().enumerate() {
-            let Look::Record(tag) = *look else {
+            let Some(earlier) = self.scan.entry(row, *look) else {
                 continue;
-            };
-            let earlier = Entry {
-                scan: self.scan,
-                row,
-                tag,
             };
             if self.clashes_with(&earlier)? {
                 return Ok(true);
@@ -50,13 +45,8 @@ impl<C: Chip> Scan<'_, C> {
         ensures { Clashed (C.Chip.model self.now.chip.now) result }
     {
         for (row, look) in self.rows.iter().enumerate() {
-            let Look::Record(tag) = *look else {
+            let Some(entry) = self.entry(row, *look) else {
                 continue;
-            };
-            let entry = Entry {
-                scan: self,
-                row,
-                tag,
             };
             if entry.clash_before()? {
                 return Ok(Some(entry.place()));

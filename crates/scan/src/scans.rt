@@ -15,10 +15,7 @@ pub(crate) fn place_of(row: usize, sizes: Sizes) -> Place
     ensures within { (result.block < sizes.blocks) × (result.chunk < sizes.chunks) }
 {
     let chunks = sizes.chunks as usize;
-    Place {
-        block: (row / chunks) as u32,
-        chunk: (row % chunks) as u32,
-    }
+    Place::new((row / chunks) as u32, (row % chunks) as u32)
 }
 
 impl Index {

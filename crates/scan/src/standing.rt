@@ -1,6 +1,5 @@
-ghost use Rattle.std.specs.Prelude.{Decides, ◌≡◌, ◌<◌, [], length, map, slice_index_or};
+ghost use Rattle.std.specs.Prelude.{Decides, ◌≡◌, length, map};
 ghost use Rattle.flash.specs.Model.{blocks_of};
-ghost use Rattle.scan.specs.Flat.{looks};
 ghost use Rattle.flash.specs.declared.chunks.Look.TheVariants.{Blank};
 ghost use Rattle.std.specs.List.{All};
 ghost use Rattle.rules.specs.Mounting.{mounted_block};
@@ -10,7 +9,7 @@ use flash::{Chip, Look};
 use rules::{Event, Standing};
 use table::move_on;
 
-// Whether these rows all tell of blank chunks.
+// Whether these rows all tell of blank chunks. One for the chunks of the chips too would be `Iterator::all` itself.
 fn all_blank(rows: &[Look]) -> bool
     ensures { Decides result (All (λ x. x ≡ Blank) rows.now) }
 {
@@ -18,22 +17,14 @@ fn all_blank(rows: &[Look]) -> bool
 }
 
 impl<C: Chip> Scan<'_, C> {
-    // The rows of a block.
-    fn block(&self, block: usize) -> &[Look]
-        requires { block < self.now.sizes.blocks }
-        ensures { result.now ≡ looks (slice_index_or (blocks_of (C.Chip.model self.now.chip.now)) block []) }
-    {
-        let chunks = self.sizes.chunks as usize;
-        &self.rows[block * chunks..(block + 1) * chunks]
-    }
-
-    // Mounts every block: it stands blank or closed.
+    // Mounts every block: it stands blank or closed. By number: after a zip with `iter_mut` a proof knows nothing of the
+    // standings that it leaves.
     pub(crate) fn stand(&self, standings: &mut [Standing])
         requires { length standings.old ≡ self.now.sizes.blocks }
         ensures { standings.new ≡ map mounted_block (blocks_of (C.Chip.model self.now.chip.now)) }
     {
         for (block, standing) in standings.iter_mut().enumerate() {
-            let blank = all_blank(self.block(block));
+            let blank = all_blank(&self.rows[self.sizes.rows_of(block as u32)]);
             move_on(standing, Event::Mounted { blank });
         }
     }

@@ -1,8 +1,8 @@
-ghost use Rattle.std.specs.Prelude.{◌≡◌, ◌<◌, true, length, slice_index_or};
-ghost use Rattle.flash.specs.declared.chunks.Look.TheVariants.{Blank, Record as RecordL};
+ghost use Rattle.std.specs.Prelude.{◌≡◌, ◌<◌, true, length, Some, None, slice_index_or, MatchOption};
+ghost use Rattle.flash.specs.declared.chunks.Look.TheVariants.{Blank};
 ghost use Rattle.rules.specs.Mounting.{sizes_fit};
 ghost use Rattle.scan.specs.Scans.{AllWhole};
-ghost use Rattle.scan.specs.Tables.{TableOf, PlaceOf, DataOf};
+ghost use Rattle.scan.specs.Tables.{TableOf, tag_at, PlaceOf, DataOf};
 
 use crate::scans::place_of;
 use flash::{Chip, Fault, Look, Place, Sizes, Tag};
@@ -25,7 +25,23 @@ pub(crate) struct Entry<'s, 'a, C: Chip> {
     pub(crate) row: usize,
     pub(crate) tag: Tag,
     ghost there: { row < length scan.now.rows.now },
-    ghost told: { slice_index_or scan.now.rows.now row Blank ≡ RecordL tag },
+    ghost told: { tag_at (C.Chip.model scan.now.chip.now) row ≡ Some tag },
+}
+
+impl<'a, C: Chip> Scan<'a, C> {
+    // The record in a row, if what the row tells is one.
+    pub(crate) fn entry<'s>(&'s self, row: usize, look: Look) -> Option<Entry<'s, 'a, C>>
+        requires there { row < length self.now.rows.now }
+        requires told { slice_index_or self.now.rows.now row Blank ≡ look }
+        ensures { MatchOption result (tag_at (C.Chip.model self.now.chip.now) row ≡ None) (λ e. (e.scan.now ≡ self.now) × (e.row ≡ row)) }
+    {
+        let tag = look.tag()?;
+        Some(Entry {
+            scan: self,
+            row,
+            tag,
+        })
+    }
 }
 
 impl<C: Chip> Entry<'_, '_, C> {

@@ -7,6 +7,7 @@ use scan::Index;
 
 // A chip; while the store runs, what is known of it; and which files are open. A stopped store keeps its index, since attach
 // alone takes memory: so `running` stands beside it, and there is no Option. For the same reason `held` is an array.
+// No enum: each variant would hold the index anew, and a change of variant would have to move it out of a borrowed store.
 #[derive(Drop)]
 pub struct Store<C: Chip> {
     pub(crate) chip: C,

@@ -1,7 +1,7 @@
 use Rattle.std.proofs.Common.{refl, ap, ◌∙◌}
 use Rattle.rules.specs.Records.{is_header}
 use Rattle.names.specs.Names.{entries_of}
-use Rattle.scan.proofs.Telling.{told}
+use Rattle.scan.proofs.Telling.{recorded}
 use Rattle.scan.proofs.Noting.{NotedIf, header-first, other-first}
 use Rattle.scan.proofs.tables.Entry.first_byte.Goals as goal
 use Rattle.scan.proofs.tables.Entry.first_byte.Goals.{then-in_file, else-in_file}
@@ -9,8 +9,7 @@ use Rattle.scan.proofs.tables.Entry.first_byte.Goals.{then-in_file, else-in_file
 pub returns-then-not-is_header : goal.returns-then-not-is_header
 returns-then-not-is_header g c =
     let e = c.args.self.now in
-    let r = told e.scan.now.table e.row e.tag e.told in
-    other-first _ e.scan.now.rows.now e.row e.tag (entries_of c.args.names.now) c.is_header.result (c.is_header.ensures ∙ ap is_header c.kind_of.ensures) r.0 r.1 r.2 c.if-not-is_header.true
+    other-first _ e.scan.now.rows.now e.row e.tag (entries_of c.args.names.now) c.is_header.result (c.is_header.ensures ∙ ap is_header c.kind_of.ensures) (recorded e.told) c.if-not-is_header.true
 
 pub returns : goal.returns
 returns g c =
