@@ -11,3 +11,4 @@ pub mod Recorded
 pub mod Examining
 pub mod Standings
 pub mod Accepting
+pub mod Saying

@@ -1,5 +1,6 @@
 pub mod Flat
 pub mod Refusals
+pub mod Words
 pub mod Scans
 pub mod Tables
 pub mod Starts

@@ -13,6 +13,7 @@ pub mod scans;
 mod standing;
 mod starts;
 mod tables;
+pub mod words;
 
 pub use formats::format;
 pub use indexes::Index;
