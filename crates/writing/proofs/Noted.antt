@@ -1,12 +1,10 @@
 -- An index that tells of a chip tells of it after one chunk is put or one block erased, and that is noted. Assumes nothing.
-use Rattle.std.proofs.Common.{◌≡◌, ◌≢◌, ℕ, suc, ◌+◌, ◌-◌, ◌*◌, ◌/◌, ◌%◌, ◌<◌, ◌≤◌, ◌⊎◌, List, ◌++◌, length, get_or, set, take, drop, replicate, vec_items, sym, refl, ap, ◌∙◌, inl, inr, ⊎_elim, arith, mul-le-mul_right, length-append, length-take, length-drop, get_or-take, get_or-drop}
+use Rattle.std.proofs.Common.{◌≡◌, ◌≢◌, ℕ, suc, ◌+◌, ◌-◌, ◌*◌, ◌/◌, ◌%◌, ◌<◌, ◌≤◌, ◌⊎◌, List, ◌++◌, length, get_or, set, take, drop, replicate, vec_items, sym, refl, ap, ◌∙◌, inl, inr, ⊎_elim, arith, mul-le-mul_right, length-take, get_or-take}
 use lib.Arith.{digits_lt, digits_div, digits_mod}
 use Rattle.std.proofs.lemmas.Bool.{cases_eq, cases_lt}
 use Rattle.std.proofs.lemmas.Grind.{common_steps}
 use Rattle.std.proofs.lemmas.List.{get_or-set_same, get_or-set_other, length-set}
-use Rattle.std.proofs.Math.Seq.{take-set-lt}
-use Rattle.flash.specs.declared.chunks.Chunk.{Chunk}
-use Rattle.flash.specs.declared.chunks.Chunk.TheVariants.{Blank, Holds}
+use Rattle.flash.specs.declared.chunks.Chunk.TheVariants.{Holds}
 use Rattle.flash.specs.declared.chunks.Look.{Look}
 use Rattle.flash.specs.declared.chunks.Look.TheVariants.{Blank as blank_l, Record as record_l}
 use Rattle.flash.specs.declared.chunks.Place.{Place}

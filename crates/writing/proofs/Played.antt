@@ -1,5 +1,5 @@
 -- One act done on a chip and noted in its index. Assumes nothing.
-use Rattle.std.proofs.Common.{◌≡◌, ◌≢◌, ℕ, suc, true, ◌+◌, ◌<◌, Bool, cond, List, [], ◌∷◌, length, get_or, set, take, vec_items, ◌==◌, sym, refl, ap, ◌∙◌, arith, get_or-take}
+use Rattle.std.proofs.Common.{◌≡◌, ◌≢◌, ℕ, suc, true, ◌+◌, ◌<◌, Bool, cond, [], ◌∷◌, length, get_or, set, take, vec_items, ◌==◌, sym, ap, ◌∙◌, arith, get_or-take}
 use Rattle.std.proofs.Math.Seq.{take-set-lt}
 use Rattle.flash.specs.declared.chunks.Chunk.TheVariants.{Holds}
 use Rattle.flash.specs.declared.chunks.Place.{Place}
@@ -7,7 +7,7 @@ use Rattle.flash.specs.declared.chunks.Record.{Record}
 use Rattle.flash.specs.declared.chunks.Sizes.{Sizes}
 use Rattle.flash.specs.declared.faults.Purpose.{Purpose}
 use Rattle.flash.specs.declared.faults.Purpose.TheVariants.{Adding as ToAdd, Copying as ToCopy}
-use Rattle.flash.specs.Blocks.{put_at, erase_at}
+use Rattle.flash.specs.Blocks.{put_at}
 use Rattle.flash.specs.Model.{State, blocks_of}
 use Rattle.flash.specs.Writes.{ProgramDone, Erases, IsBlank}
 use Rattle.flash.proofs.Views.{block-length, put_view, erase-view}

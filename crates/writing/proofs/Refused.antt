@@ -1,5 +1,5 @@
 -- What a chip refuses: where it takes the act nothing but a failure of the supply, which leaves what the rules allow. Assumes nothing.
-use Rattle.std.proofs.Common.{◌≡◌, ℕ, zero, suc, ◌+◌, ◌<◌, ◌≤◌, false, ◌⊎◌, List, [], ◌∷◌, length, get_or, sym, refl, ap, ◌∙◌, inl, inr, ⊎_elim, arith}
+use Rattle.std.proofs.Common.{◌≡◌, ℕ, suc, ◌<◌, ◌≤◌, false, ◌⊎◌, List, [], ◌∷◌, length, get_or, sym, refl, ap, ◌∙◌, inl, inr, ⊎_elim, arith}
 use Rattle.std.proofs.lemmas.Bool.{both_ways}
 use Rattle.std.proofs.lemmas.List.{get_or_default}
 use Rattle.flash.specs.declared.chunks.Chunk.{Chunk}
@@ -17,7 +17,7 @@ use Rattle.flash.specs.Reads.{Within}
 use Rattle.flash.specs.Writes.{Programs, ProgramFails, LeftByErase, NotProgrammed, NotErased, Erases}
 use Rattle.flash.proofs.Views.{block-length, cell_at, put_view, fail-view}
 use Rattle.rules.specs.Laws.{Left}
-use Rattle.rules.specs.Places.{Act as RulesAct, erasing}
+use Rattle.rules.specs.Places.{erasing}
 use Rattle.rules.specs.Runs.{Takes}
 use Rattle.rules.specs.Safety.{Failed}
 use Rattle.scan.specs.declared.indexes.Index.{Index}

@@ -1,5 +1,5 @@
 -- What a note makes of an index. Only private functions cite this. Assumes nothing.
-use Rattle.std.specs.Prelude.{◌≡◌, ℕ, ◌+◌, ◌*◌, List, ◌++◌, take, drop, replicate, vec_items, ◌==◌, slice_index_or, slice_set}
+use Rattle.std.specs.Prelude.{◌≡◌, ℕ, ◌+◌, ◌*◌, ◌++◌, take, drop, replicate, vec_items, ◌==◌, slice_index_or, slice_set}
 use Rattle.flash.specs.declared.chunks.Look.TheVariants.{Blank, Record as record_l}
 use Rattle.flash.specs.declared.chunks.Place.{Place}
 use Rattle.flash.specs.declared.chunks.Tag.{Tag}
