@@ -15,7 +15,7 @@ use Rattle.rules.specs.declared.kinds.Kind.{Kind}
 use Rattle.rules.specs.declared.kinds.Kind.TheVariants.{Data as data_k, Header as header_k, CutHeader as cut_k, Marker as marker_k, Other as other_k}
 use Rattle.flash.specs.Chunks.{look_of}
 use Rattle.rules.specs.Records.{kind, is_data, is_header, object, first_byte, keeps_rules}
-use Rattle.rules.specs.Reading.{File, files, in_file, used, used_by}
+use Rattle.rules.specs.Reading.{File, Files, files, in_file, used, used_by}
 use Rattle.rules.specs.Places.{load}
 use Rattle.rules.specs.Mounting.{sizes_fit, placed, first_placed, first_clash, two_named, limit, no_way_on, Fault, plain_if, placed_fault, verdict}
 use Rattle.rules.specs.Laws.{Unique}
@@ -191,23 +191,27 @@ module _ {s : State} {z : Sizes} {rows : List Look} {names : Entries} (p : Passe
   unique : Unique (standing (blocks_of s))
   unique = unique-from (blocks_of s) (sym p.clash)
 
-  pub mirror : Mirrors names (files (standing (blocks_of s)))
+  mirror : Mirrors names (files (standing (blocks_of s)))
   mirror = names-mirror s z rows p.table names p.checked keeps unique
+
+  -- whether two of the files that the names mirror have one name
+  abbrev pub Alike : Bool → Type 0
+  Alike y = (fs : Files) → Mirrors names fs → y ≡ two_named fs
 
   verdict-then : {b12 b13 b14 : Bool} → two_named (files (standing (blocks_of s))) ≡ b12 → ltb (limit s.n s.p) (used_by (files (standing (blocks_of s)))) ≡ b13 → no_way_on (blocks_of s) ≡ b14
       → verdict s.n s.p (blocks_of s) ≡ chain None None b12 b13 b14
   verdict-then = verdict-by s (fits-own p.table p.fit) (no-broken p.checked) (sym p.clash)
 
-  pub same-names : true ≡ two_named (files (standing (blocks_of s))) → Examined s (Err SameNames) rows names
-  same-names e = record { answers = sym (verdict-then (sym e) refl refl); leaves = tt }
+  pub same-names : Alike true → Examined s (Err SameNames) rows names
+  same-names e = record { answers = sym (verdict-then (sym (e _ mirror)) refl refl); leaves = tt }
 
   large-is : ltb (limit z.blocks z.chunks) (used (records rows)) ≡ ltb (limit s.n s.p) (used_by (files (standing (blocks_of s))))
   large-is =
       rw (p.table.sizes.blocks, p.table.sizes.chunks)
       (ap (ltb (limit s.n s.p)) (ap used (table-rs s z rows p.table) ∙ (bare-reads-alike (standing (blocks_of s))).used_same ∙ sym (used-by-files (standing (blocks_of s)) unique keeps)))
 
-  pub too-large : false ≡ two_named (files (standing (blocks_of s))) → true ≡ ltb (limit z.blocks z.chunks) (used (records rows)) → Examined s (Err FilesTooLarge) rows names
-  too-large e l = record { answers = sym (verdict-then (sym e) (sym (l ∙ large-is)) refl); leaves = tt }
+  pub too-large : Alike false → true ≡ ltb (limit z.blocks z.chunks) (used (records rows)) → Examined s (Err FilesTooLarge) rows names
+  too-large e l = record { answers = sym (verdict-then (sym (e _ mirror)) (sym (l ∙ large-is)) refl); leaves = tt }
 
   load-is : (i : ℕ) → load (table_blocks z.chunks z.blocks (bares rows)) i ≡ load (blocks_of s) i
   load-is i = rw (p.table.sizes.blocks, p.table.sizes.chunks) (ap (λ (xs : List (List Chunk)). load xs i) (table-bs s z rows p.table) ∙ (blocks-alike (blocks_of s)).load_same i)
@@ -227,12 +231,12 @@ module _ {s : State} {z : Sizes} {rows : List Look} {names : Entries} (p : Passe
       let n = p.table.sizes.blocks in
       false≢true ((d long).1 (w.0, omega (arith, w.1), load-is w.0 ∙ w.2)))
 
-  module _ (e : false ≡ two_named (files (standing (blocks_of s)))) (l : false ≡ ltb (limit z.blocks z.chunks) (used (records rows))) where
+  module _ (e : Alike false) (l : false ≡ ltb (limit z.blocks z.chunks) (used (records rows))) where
     pub no-way : Idle rows z false → Examined s (Err NoWayOn) rows names
-    no-way d = record { answers = sym (verdict-then (sym e) (sym (l ∙ large-is)) (idle-is false d)); leaves = tt }
+    no-way d = record { answers = sym (verdict-then (sym (e _ mirror)) (sym (l ∙ large-is)) (idle-is false d)); leaves = tt }
 
     pub accepted : Idle rows z true → Examined s (Ok tt) rows names
     accepted d = record {
-      answers = sym (verdict-then (sym e) (sym (l ∙ large-is)) (idle-is true d));
+      answers = sym (verdict-then (sym (e _ mirror)) (sym (l ∙ large-is)) (idle-is true d));
       leaves = record { mirror = p.table.mirror; whole = whole-all s p.whole; named = mirror };
     }

@@ -1,6 +1,6 @@
 use Rattle.std.proofs.lemmas.Result.{err_from_is_err_and}
 use Rattle.names.specs.Names.{entries_of}
-use Rattle.scan.proofs.Examining.{passed, broken-rule, serial-clash, mirror, same-names, too-large, no-way, accepted}
+use Rattle.scan.proofs.Examining.{passed, broken-rule, serial-clash, same-names, too-large, no-way, accepted}
 use Rattle.scan.proofs.tables.Scan.examine.Goals as goal
 
 pub returns-in_err-check_rows : goal.returns-in_err-check_rows
@@ -18,22 +18,22 @@ pub returns-then-two_alike : goal.returns-then-two_alike
 returns-then-two_alike g c =
     let x = c.args.self.now in
     let p = passed x.table x.fit x.whole c.in_ok-check_rows.ensures (rw c.in_default.is at c.in_ok-at.ensures) in
-    same-names p (c.if-two_alike.ensures.files _ (mirror p))
+    same-names p c.if-two_alike.ensures.files
 
 pub returns-then-too_large : goal.returns-then-too_large
 returns-then-too_large g c =
     let x = c.args.self.now in
     let p = passed x.table x.fit x.whole c.in_ok-check_rows.ensures (rw c.in_default.is at c.in_ok-at.ensures) in
-    too-large p (c.if-two_alike.ensures.files _ (mirror p)) c.if-too_large.ensures
+    too-large p c.if-two_alike.ensures.files c.if-too_large.ensures
 
 pub returns-then-not-some_idle : goal.returns-then-not-some_idle
 returns-then-not-some_idle g c =
     let x = c.args.self.now in
     let p = passed x.table x.fit x.whole c.in_ok-check_rows.ensures (rw c.in_default.is at c.in_ok-at.ensures) in
-    no-way p (c.if-two_alike.ensures.files _ (mirror p)) c.if-too_large.ensures c.if-not-some_idle.ensures
+    no-way p c.if-two_alike.ensures.files c.if-too_large.ensures c.if-not-some_idle.ensures
 
 pub returns : goal.returns
 returns g c =
     let x = c.args.self.now in
     let p = passed x.table x.fit x.whole c.in_ok-check_rows.ensures (rw c.in_default.is at c.in_ok-at.ensures) in
-    accepted p (c.if-two_alike.ensures.files _ (mirror p)) c.if-too_large.ensures c.if-not-some_idle.ensures
+    accepted p c.if-two_alike.ensures.files c.if-too_large.ensures c.if-not-some_idle.ensures
