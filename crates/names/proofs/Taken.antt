@@ -1,18 +1,14 @@
 -- A name taken, and two alike, by a test of the objects from 257 on. Assumes nothing.
-use Rattle.std.proofs.Common.{◌≡◌, ℕ, ◌+◌, ◌-◌, ◌<◌, ◌≤◌, Bool, ◌≢◌, List, get_or, Some, None, Decides, sym, ap, ◌∙◌, inl, inr, arith}
-use Rattle.std.proofs.lemmas.Bool.{and_parts, cases_Bool, cases_lt, leb-true, cond-false}
-use Rattle.std.proofs.lemmas.Bool.Decides.{Decides-like}
-use Rattle.rules.specs.Lists.{within}
+use Rattle.std.proofs.Common.{◌≡◌, ℕ, ◌+◌, ◌-◌, ◌<◌, ◌≤◌, Bool, ◌≢◌, List, Some, Decides, sym, ap, ◌∙◌, inl, inr, arith}
+use Rattle.std.proofs.lemmas.Bool.{cases_lt}
+use Rattle.std.proofs.lemmas.Bool.Decides.{Decides-like, nat_tests}
+use Rattle.std.proofs.lemmas.Grind.{common_steps}
 use Rattle.names.specs.Names.{Entries, name_at, Taken, Alike}
 
 -- an object that has a name is in range
 in-range : (es : Entries) (o : ℕ) (name : List ℕ) → name_at es o ≡ Some name → (257 ≤ o) × (o ≤ 511)
 unfolding name_at
-in-range es o name e =
-    elim (cases_Bool (within 257 511 o)) [
-      | inl h ↦ (let p = and_parts _ _ h in (leb-true 257 o p.0, leb-true o 511 p.1))
-      | inr h ↦ (let q = sym (cond-false (within 257 511 o) (get_or es (o - 257) None) None h) ∙ e in cc)
-    ]
+in-range es o name e = grind (arith, nat_tests, common_steps)
 
 pub taken-from : (es : Entries) (r : Bool) (o : ℕ) (name : List ℕ)
     → Decides r ((i : ℕ) × (i < 255) × (257 + i ≢ o) × (name_at es (257 + i) ≡ Some name)) → Decides r (Taken es o name)

@@ -54,8 +54,9 @@ fn objects(rt: HostRuntime) -> Result<(), Fail> {
     names.put(257, &[b'x'; 41]);
     names.put(257, b"");
     names.put(511, b"x");
-    assert_eq!(rt; names.name(257), Some(b"low".as_slice()));
-    assert_eq!(rt; names.name(511), Some(b"x".as_slice()));
+    let (low, x) = (*b"low", *b"x");
+    assert_eq!(rt; names.name(257), Some(low.as_slice()));
+    assert_eq!(rt; names.name(511), Some(x.as_slice()));
     Ok(())
 }
 
