@@ -1,13 +1,12 @@
 -- What a record newer than all others makes of the files: what the accepted call makes of them. Assumes nothing.
-use Rattle.std.proofs.Common.{◌≡◌, ℕ, ◌<◌, ◌≤◌, max, Bool, true, false, cond, eqb, leb, ◌⊎◌, List, ◌∷◌, take, Some, None, Option, sym, refl, ap, ◌∙◌, inl, inr, arith}
-use Rattle.std.proofs.lemmas.Bool.{both_ways}
+use Rattle.std.proofs.Common.{◌≡◌, ℕ, ◌<◌, ◌≤◌, max, Bool, true, false, cond, eqb, leb, ◌⊎◌, List, ◌∷◌, take, Some, None, Option, sym, refl, ap, ◌∙◌, arith}
 use Rattle.flash.specs.declared.chunks.Record.{Record}
 use Rattle.rules.specs.Lists.{Among, is_there}
 use Rattle.rules.specs.Records.{kind, kind_by, object, is_data, is_header, is_marker}
 use Rattle.rules.specs.Reading.{hidden, header, newest, chunk, highest_chunk, files, bytes_in, name_in, File}
 use Rattle.rules.specs.Right.{fresh, with_part, shortened, renamed}
 use Rattle.rules.specs.declared.kinds.Kind.{Kind}
-use Rattle.rules.specs.declared.kinds.Kind.TheVariants.{Data as data_k, Header as header_k, CutHeader as cut_k, Marker as marker_k, Other as other_k}
+use Rattle.rules.specs.declared.kinds.Kind.TheVariants.{Header as header_k, CutHeader as cut_k, Marker as marker_k}
 use Rattle.rules.proofs.Lists.{any_none, newest-found}
 use Rattle.rules.proofs.Views.{Hides, HeadOf, DataOf, hides-view, hides-from, head-view, head-from, data-view, data-from}
 use Rattle.rules.proofs.Removal.{highest-most, highest-least, highest_same}
@@ -22,11 +21,7 @@ unfolding kind
 data-number d e = number_by d.tag.first e
 
 data-no-head : (k : Kind) → is_data k ≡ true → (is_header k ≡ true) ⊎ (is_marker k ≡ true) → ⊥
-data-no-head data_k e h = elim h [ inl x ↦ both_ways false refl x | inr x ↦ both_ways false refl x ]
-data-no-head header_k e h = cc
-data-no-head cut_k e h = cc
-data-no-head marker_k e h = cc
-data-no-head other_k e h = cc
+data-no-head k e h = grind arith
 
 -- files, by their parts
 pub file-is : (rs : List Record) (o : ℕ) (h : Record) (nm : List ℕ) (l : ℕ) (p : ℕ → Option (List ℕ)) → header rs o ≡ Some h → name_in h.bytes ≡ nm → max h.tag.third (highest_chunk rs o) ≡ l

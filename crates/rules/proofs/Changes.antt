@@ -1,6 +1,5 @@
 -- The record of each change makes of the files what the accepted change makes of them. Assumes nothing.
-use Rattle.std.proofs.Common.{◌≡◌, ℕ, ◌<◌, ◌≤◌, true, ◌&&◌, leb, List, ◌∷◌, Some, None, Option, refl, ap, ◌∙◌, arith}
-use Rattle.std.proofs.lemmas.Bool.{cond-true, and_from, le-leb}
+use Rattle.std.proofs.Common.{◌≡◌, ℕ, ◌<◌, ◌≤◌, true, List, ◌∷◌, Some, None, Option, refl, ap, ◌∙◌, arith}
 use Rattle.std.proofs.lemmas.List.{take_at}
 use Rattle.flash.specs.declared.chunks.Record.{Record}
 use Rattle.rules.specs.Lists.{Among}
@@ -24,7 +23,7 @@ some-header rs o e = grind arith
 
 pub data-kind : (j : ℕ) → 1 ≤ j → j ≤ 1000 → kind_by j ≡ data_k
 unfolding kind_by
-data-kind j a b = cond-true (leb 1 j && leb j 1000) data_k _ (and_from _ _ (le-leb _ _ a) (le-leb _ _ b))
+data-kind j a b = grind arith
 
 pub adding-is-right : AddingIsRight
 unfolding object kind kind_by

@@ -239,9 +239,7 @@ module _ (p : ℕ) (s : Flash) (ok : Sound p s) (k : ℕ) (r : Record) where
       at = grind (arith, whole, first-blank, spot, all_tail, full)
 
       opened : (k ≡ 0 → ⊥) → first_where is_open_s (set s.stand i (cond (eqb 1 (length (get_or s.blocks i []))) closed_s open_s)) ≡ Some i
-      opened n =
-          ap (λ (z : Bool). first_where is_open_s (set s.stand i (cond z closed_s open_s))) (ne_eqb 1 (length (get_or s.blocks i [])) (λ q. omega (arith, long)))
-          ∙ first-new is_open_s s.stand i open_s inside none refl
+      opened n = grind (arith, long, first-new, inside)
 
       more : k ≤ count is_blank (get_or (programmed s i 0 r).blocks i [])
       more = subst (λ (z : List Chunk). k ≤ count is_blank z) (sym (new_block p s ok i 0 r inside at)) (grind (arith, at, all-count, full, long))

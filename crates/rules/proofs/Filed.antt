@@ -1,13 +1,11 @@
 -- The records that are in a file, and the parts of the files that they are. Assumes nothing.
-use Rattle.std.proofs.Common.{◌≡◌, ℕ, max, true, false, ◌⊎◌, List, Some, None, Option, refl, ap, ◌∙◌, arith}
-use Rattle.std.proofs.lemmas.Bool.{and_from}
+use Rattle.std.proofs.Common.{◌≡◌, ℕ, max, true, false, ◌⊎◌, List, Some, None, Option, refl, arith}
 use Rattle.flash.specs.declared.chunks.Record.{Record}
 use Rattle.rules.specs.Lists.{Among, is_there}
 use Rattle.rules.specs.Records.{kind, object, is_data, is_header}
-use Rattle.rules.specs.Reading.{header, chunk, hidden, topped, replaced, present, in_file, in_file_by, files, highest_chunk, bytes_in, name_in, File}
+use Rattle.rules.specs.Reading.{header, chunk, hidden, topped, replaced, present, in_file, files, highest_chunk, bytes_in, name_in, File}
 use Rattle.rules.specs.Laws.{Unique}
 use Rattle.rules.specs.declared.kinds.Kind.{Kind}
-use Rattle.rules.specs.declared.kinds.Kind.TheVariants.{Data as data_k}
 use Rattle.rules.proofs.Lists.{newest-found}
 use Rattle.rules.proofs.Views.{DataOf, head-view, head-from, data-view, data-from, topped-from, topped-view, replaced-from, replaced-view}
 
@@ -19,10 +17,6 @@ some-none x e = cc
 
 pub there-some : {A : Type 0} (m : Option A) → is_there m ≡ true → (x : A) × (m ≡ Some x)
 there-some k e = grind arith
-
-pub data_is : (k : Kind) → is_data k ≡ true → k ≡ data_k
-data_is data_k e = refl
-data_is _ e = cc
 
 -- a record in a file is a header or a data record
 pub record HeaderIn (rs : List Record) (r : Record) : Type 0 where
@@ -49,7 +43,7 @@ module _ (rs : List Record) (r : Record) where
 
   pub data-filed : DataIn rs r → in_file rs r ≡ true
   unfolding in_file
-  data-filed v = ap (in_file_by rs r) (data_is (kind r) v.isdata) ∙ and_from _ _ v.there (grind arith)
+  data-filed v = grind arith
 
 module _ (rs : List Record) (u : Unique rs) (r : Record) (here : Among r rs) where
   pub header_of : HeaderIn rs r → header rs (object r) ≡ Some r

@@ -1,4 +1,4 @@
--- What is wanted and in no file, and what follows for counting; copies, erases and standings. Assumes nothing.
+-- What is wanted and in no file, and what follows for counting; copies and erases. Assumes nothing.
 use Rattle.std.proofs.Common.{◌≡◌, ◌<◌, true, false, not, List, refl, ap, ◌∙◌, arith}
 use Rattle.std.proofs.lemmas.Bool.{and_parts}
 use Rattle.flash.specs.declared.chunks.Record.{Record}
@@ -7,7 +7,7 @@ use Rattle.rules.specs.declared.kinds.Kind.TheVariants.{Data as data_k, Header a
 use Rattle.rules.specs.Lists.{Among}
 use Rattle.rules.specs.Records.{kind, object, is_data, is_marker}
 use Rattle.rules.specs.Reading.{files, used_by, used, hidden, outmarked, has_older, hides_some, in_file, in_file_by, wanted, wanted_by}
-use Rattle.rules.specs.Laws.{Unique, Guards, CopiesCountOnce, CopiesUseNothing, WantedGuards, AllWantedAreUsed, ErasingKeepsFiles, StandingsMove}
+use Rattle.rules.specs.Laws.{Unique, Guards, CopiesCountOnce, CopiesUseNothing, WantedGuards, AllWantedAreUsed, ErasingKeepsFiles}
 use Rattle.rules.proofs.Lists.{any-true}
 use Rattle.rules.proofs.Views.{hides-view, hidden-from, topped-from, outmarked-from, older-view}
 use Rattle.rules.proofs.Copies.{files_same, wanted_same, in_file_same}
@@ -59,6 +59,3 @@ copies-use-nothing rs rs' u keeps h =
 
 pub erasing-keeps-files : ErasingKeepsFiles
 erasing-keeps-files bs b left inside q l safe = grind (arith, erase-files, load-none, erase-safe)
-
-pub standings-move : StandingsMove
-standings-move = grind arith

@@ -20,9 +20,6 @@ use Rattle.rules.proofs.Cleaning.{Where, found, found_at, Spot, spot, open_is_le
 use Rattle.rules.proofs.Tidy.{Tidy, pair_is, Opened, open-place, none-opened, first-opened, tidy-copies, tidy-erase}
 use Rattle.rules.proofs.Keeping.{Good, Sized, sized, sized_set, sized-put, same-shrunk, good-shrunk, load-none, erase-shrunk, erase-good, Broke, copies-break}
 
-pub some-none : {A : Type 0} (x : A) → Some x ≡ None → ⊥
-some-none x e = cc
-
 pub closed-blank : closed_s ≡ blank_s → ⊥
 closed-blank e = cc
 
@@ -299,8 +296,8 @@ place_is p s lv one b c e = go (open_place s) (open-place p s lv.sound) e
     at b' c' x y h = grind arith
 
     two : first_where is_open_s s.stand ≡ None → (z : Bool) → leb 2 (count is_blank_s s.stand) ≡ z → (m : Option ℕ) → first_where is_blank_s s.stand ≡ m → cond z (start_of m) None ≡ Some (b, c) → PlaceIs s b c
-    two g false f m d h = absurd (some-none (b, c) (sym h))
-    two g true f None d h = absurd (some-none (b, c) (sym h))
+    two g false f m d h = cc
+    two g true f None d h = cc
     two g true f (Some k) d h =
         let q = pair_is (k, 0) (b, c) h in
         let fa = found_at is_blank_s s.stand k d in

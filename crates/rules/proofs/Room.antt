@@ -91,8 +91,7 @@ module _ (rs : List Record) (all : (r : Record) → Among r rs → wanted rs r �
   by r a k e = grind arith
 
   pub data_by : (k : Kind) → is_data k ≡ true → k ≡ data_k
-  data_by data_k e = refl
-  data_by _ e = cc
+  data_by k e = grind arith
 
   -- no data record is hidden
   pub bare : (d : Record) → Among d rs → is_data (kind d) ≡ true → hidden rs d ≡ true → ⊥
