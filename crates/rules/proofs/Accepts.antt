@@ -1,6 +1,6 @@
 -- Mount accepts contents exactly when they are good. Assumes nothing.
 use Rattle.std.proofs.Common.{◌≡◌, ℕ, zero, suc, ◌+◌, ◌<◌, ◌≤◌, max, Bool, true, false, cond, not, ◌&&◌, eqb, ltb, List, [], ◌∷◌, length, get_or, Some, None, Option, sym, refl, ap, ◌∙◌, subst, inl, inr, arith}
-use Rattle.std.proofs.lemmas.Bool.{both_ways, cases_eq, and_parts, and_from, and_cases, and_right, or_cases, or_left, or_right, not-true, not-false, not_from_true, not_from_false, eqb-true, eq-eqb, ne_eqb, ltb-false, le-ltb, cond-false}
+use Rattle.std.proofs.lemmas.Bool.{both_ways, cases_eq, and_parts, and_cases, and_right, or_cases, not-false, not_from_true, eqb-true, ltb-false, cond-false}
 use Rattle.flash.specs.declared.chunks.Record.{Record}
 use Rattle.rules.specs.Lists.{Among, any, or_else, same_bytes}
 use Rattle.rules.specs.Records.{keeps_rules}
@@ -17,43 +17,35 @@ use Rattle.rules.proofs.Blocks.{among-left, among-right, among_cases}
 use Rattle.rules.proofs.Mounts.{blank-block}
 use Rattle.rules.proofs.Objects.{object-true, object-false, object-some, object-none}
 use Rattle.rules.proofs.Counting.{object-in}
-use Rattle.rules.proofs.Filed.{some-none, header_at, file-at}
+use Rattle.rules.proofs.Filed.{header_at, file-at}
 use Rattle.rules.proofs.Keeping.{Way, Good, load-none}
 use Rattle.rules.proofs.Placing.{none-recs}
 
 -- options and tests
 else-none : {A : Type 0} (x y : Option A) → or_else x y ≡ None → (x ≡ None) × (y ≡ None)
-else-none None y e = (refl, e)
-else-none (Some a) y e = absurd (some-none a e)
+else-none k y e = grind arith
 
 none-else : {A : Type 0} (x y : Option A) → x ≡ None → y ≡ None → or_else x y ≡ None
-none-else x y a b = ap (λ (z : Option _). or_else z y) a ∙ b
+none-else x y a b = grind arith
 
 plain-none : (b : Bool) (k : ℕ) → plain_if b k ≡ None → b ≡ false
-plain-none true k e = absurd (some-none _ e)
-plain-none false k e = refl
+plain-none m k e = grind arith
 
 placed-none : (k : ℕ) (m : Option (ℕ × ℕ)) → placed_fault k m ≡ None → m ≡ None
-placed-none k None e = refl
-placed-none k (Some q) e = absurd (some-none _ e)
-
-at_none : (b : Bool) (q : ℕ × ℕ) → cond b (Some q) None ≡ None → b ≡ false
-at_none true q e = absurd (some-none q e)
-at_none false q e = refl
+placed-none k m e = grind arith
 
 -- equal records
 bytes-true : (xs ys : List ℕ) → same_bytes xs ys ≡ true → xs ≡ ys
 bytes-true [] [] e = refl
-bytes-true [] (y ∷ ys) e = absurd (both_ways false refl e)
-bytes-true (x ∷ xs) [] e = absurd (both_ways false refl e)
-bytes-true (x ∷ xs) (y ∷ ys) e = (let a = and_parts (eqb x y) (same_bytes xs ys) e in λ i. eqb-true x y a.0 i ∷ bytes-true xs ys a.1 i)
+bytes-true (x ∷ xs) (y ∷ ys) e = grind (arith, bytes-true xs ys)
+bytes-true _ _ e = cc
 
 bytes-self : (xs : List ℕ) → same_bytes xs xs ≡ true
 bytes-self [] = refl
-bytes-self (x ∷ xs) = and_from _ _ (eq-eqb x x refl) (bytes-self xs)
+bytes-self (x ∷ xs) = grind (arith, bytes-self xs)
 
 pub bytes-from : (xs ys : List ℕ) → xs ≡ ys → same_bytes xs ys ≡ true
-bytes-from xs ys e = ap (same_bytes xs) (sym e) ∙ bytes-self xs
+bytes-from xs ys e = grind (arith, bytes-self)
 
 pub rec-true : (a b : Record) → same_record a b ≡ true → a ≡ b
 rec-true a b e =
@@ -64,24 +56,16 @@ rec-true a b e =
     λ i. record { tag = record { first = eqb-true _ _ x.0 i; second = eqb-true _ _ y.0 i; third = eqb-true _ _ z.0 i; serial = eqb-true _ _ u.0 i }; bytes = bytes-true a.bytes b.bytes u.1 i }
 
 pub rec-self : (a : Record) → same_record a a ≡ true
-rec-self a = and_from _ _ (eq-eqb a.tag.first a.tag.first refl) (and_from _ _ (eq-eqb a.tag.second a.tag.second refl) (and_from _ _ (eq-eqb a.tag.third a.tag.third refl) (and_from _ _ (eq-eqb a.tag.serial a.tag.serial refl) (bytes-self a.bytes))))
+rec-self a = grind (arith, bytes-self)
 
 abbrev Agree : Record → Record → Type 0
 Agree a b = a.tag.serial ≡ b.tag.serial → a ≡ b
 
 like : (a b : Record) → unlike a b ≡ false → Agree a b
-like a b e s = go (eqb a.tag.serial b.tag.serial) (eq-eqb _ _ s) e
-  where
-    go : (z : Bool) → z ≡ true → ◌≡◌ {A = Bool} (elim z [ true ↦ not (same_record a b) | false ↦ false ]) false → a ≡ b
-    go true f h = rec-true a b (not-false (same_record a b) h)
-    go false f h = absurd (both_ways false refl f)
+like a b e s = grind (arith, rec-true)
 
 unlike-not : (a b : Record) → Agree a b → unlike a b ≡ false
-unlike-not a b h = go (eqb a.tag.serial b.tag.serial) refl
-  where
-    go : (z : Bool) → eqb a.tag.serial b.tag.serial ≡ z → ◌≡◌ {A = Bool} (elim z [ true ↦ not (same_record a b) | false ↦ false ]) false
-    go true e = not_from_true (same_record a b) (ap (same_record a) (sym (h (eqb-true _ _ e))) ∙ rec-self a)
-    go false e = refl
+unlike-not a b h = grind (arith, rec-self)
 
 -- the scan's list has what stands
 in-placed : (b c : ℕ) (cs : List Chunk) (r : Record) → Among r (records_of cs) → (q : Placed) × Among q (placed_in b c cs) × (q.what ≡ r)
@@ -95,15 +79,15 @@ all_placed : (b : ℕ) (bs : List (List Chunk)) (r : Record) → Among r (standi
 all_placed b [] r a = absurd a
 all_placed b (x ∷ bs) r a =
     elim (among_cases (records_of x) (standing bs) r a) [
-      | inl d ↦ (let h = in-placed b 0 x r d in (h.0, among-left (placed_in b 0 x) (placed (suc b) bs) h.0 h.1, h.2))
-      | inr d ↦ (let h = all_placed (suc b) bs r d in (h.0, among-right (placed_in b 0 x) (placed (suc b) bs) h.0 h.1, h.2))
+      | inl d ↦ (let h = in-placed b 0 x r d in (grind (arith, among-left)))
+      | inr d ↦ (let h = all_placed (suc b) bs r d in (grind (arith, among-right)))
     ]
 
 placed-recs : (b c : ℕ) (cs : List Chunk) (q : Placed) → Among q (placed_in b c cs) → Among q.what (records_of cs)
 placed-recs b c [] q a = absurd a
 placed-recs b c (Blank ∷ cs) q a = placed-recs b (suc c) cs q a
 placed-recs b c (Damaged ∷ cs) q a = placed-recs b (suc c) cs q a
-placed-recs b c (Holds x ∷ cs) q (inl e) = inl (ap (λ (z : Placed). z.what) e)
+placed-recs b c (Holds x ∷ cs) q (inl e) = grind arith
 placed-recs b c (Holds x ∷ cs) q (inr a) = inr (placed-recs b (suc c) cs q a)
 
 placed-stands : (b : ℕ) (bs : List (List Chunk)) (q : Placed) → Among q (placed b bs) → Among q.what (standing bs)
@@ -117,13 +101,11 @@ placed-stands b (x ∷ bs) q a =
 -- 10
 first-all : (t : Placed → Bool) (qs : List Placed) → first_placed t qs ≡ None → (q : Placed) → Among q qs → t q ≡ false
 first-all t [] e q a = absurd a
-first-all t (x ∷ xs) e q a =
-    let h = else-none (cond (t x) (Some (x.block, x.chunk)) None) (first_placed t xs) e in
-    elim a [ inl p ↦ ap t (sym p) ∙ at_none (t x) _ h.0 | inr d ↦ first-all t xs h.1 q d ]
+first-all t (x ∷ xs) e q a = grind (arith, first-all t xs, else-none)
 
 all_first : (t : Placed → Bool) (qs : List Placed) → ((q : Placed) → Among q qs → t q ≡ false) → first_placed t qs ≡ None
 all_first t [] h = refl
-all_first t (x ∷ xs) h = none-else (cond (t x) (Some (x.block, x.chunk)) None) (first_placed t xs) (cond-false (t x) _ _ (h x (inl refl))) (all_first t xs (λ q a. h q (inr a)))
+all_first t (x ∷ xs) h = grind (arith, all_first t xs (λ q a. h q (inr a)))
 
 -- 11
 record Alike (before : List Record) (qs : List Placed) : Type 0 where
@@ -133,28 +115,21 @@ record Alike (before : List Record) (qs : List Placed) : Type 0 where
 clash-step : (x : Placed) (xs : List Placed) (before : List Record) → any (unlike x.what) before ≡ false → Alike (x.what ∷ before) xs → Alike before (x ∷ xs)
 clash-step x xs before h rest = record { old = old'; new = new' }
   where
-    refuted : (b : Bool) → (b ≡ true → ⊥) → b ≡ false
-    refuted true f = absurd (f refl)
-    refuted false f = refl
-
     here : (r : Record) → Among r before → Agree x.what r
-    here r a = like x.what r (refuted (unlike x.what r) (λ t. any_false (unlike x.what) before r h a t))
+    here r a = grind (arith, like, any_false)
 
     old' : (q : Placed) → Among q (x ∷ xs) → (r : Record) → Among r before → Agree q.what r
-    old' q (inl p) r a = subst (λ (z : Placed). Agree z.what r) p (here r a)
-    old' q (inr d) r a = rest.old q d r (inr a)
+    old' q k r a = grind (arith, here)
 
     new' : (q q' : Placed) → Among q (x ∷ xs) → Among q' (x ∷ xs) → Agree q.what q'.what
-    new' q q' (inl p) (inl p') s = ap (λ (z : Placed). z.what) (sym p ∙ p')
+    new' q q' (inl p) (inl p') s = grind arith
     new' q q' (inl p) (inr d) s = sym (subst (λ (z : Placed). Agree q'.what z.what) p (rest.old q' d x.what (inl refl)) (sym s))
     new' q q' (inr d) (inl p) s = subst (λ (z : Placed). Agree q.what z.what) p (rest.old q d x.what (inl refl)) s
     new' q q' (inr d) (inr d') s = rest.new q q' d d' s
 
 clash-none : (qs : List Placed) (before : List Record) → first_clash before qs ≡ None → Alike before qs
-clash-none [] before e = record { old = λ q a. absurd a; new = λ q q' a. absurd a }
-clash-none (x ∷ xs) before e =
-    let h = else-none (cond (any (unlike x.what) before) (Some (x.block, x.chunk)) None) (first_clash (x.what ∷ before) xs) e in
-    clash-step x xs before (at_none _ _ h.0) (clash-none xs (x.what ∷ before) h.1)
+clash-none [] before e = grind arith
+clash-none (x ∷ xs) before e = grind (arith, clash-none xs (x.what ∷ before), clash-step)
 
 none-clash : (qs : List Placed) (before : List Record) → Alike before qs → first_clash before qs ≡ None
 none-clash [] before h = refl
@@ -174,7 +149,7 @@ file-range rs keeps o f e =
     let a = file-at rs o f e in
     let h = header_at rs o a.head a.header' in
     let q = object-in a.head (keeps a.head h.stands) in
-    (subst (λ (z : ℕ). 257 ≤ z) h.of q.0, subst (λ (z : ℕ). z ≤ 511) h.of q.1)
+    (grind arith)
 
 pub file-named : (rs : List Record) (o : ℕ) (h : Record) → header rs o ≡ Some h → (f : File) × (files rs o ≡ Some f) × (f.name ≡ name_in h.bytes)
 unfolding files
@@ -196,7 +171,7 @@ names-from fs range e o o' f f' p p' s =
           absurd (let a = range o f p in let b = range o' f' p' in
           object-false (λ k. shares_name fs k (fs k)) o e a.0 a.1
           (ap (shares_name fs o) p ∙ object-true (λ k. not (eqb k o) && named f.name (fs k)) o' b.0 b.1
-          (and_from _ _ (not_from_false _ (ne_eqb _ _ (λ q. n (sym q)))) (ap (named f.name) p' ∙ bytes-from _ _ (sym s)))))
+          (grind (arith, bytes-from))))
     ]
 
 names-to : (fs : Files) → Names fs → two_named fs ≡ false
@@ -204,34 +179,30 @@ unfolding two_named name_taken
 names-to fs names = object-none (λ k. shares_name fs k (fs k)) (λ o t. share o (fs o) refl t)
   where
     other : (o k : ℕ) (f : File) (m : Option File) → fs o ≡ Some f → fs k ≡ m → not (eqb k o) ≡ true → named f.name m ≡ true → ⊥
-    other o k f None p q n t = both_ways false refl t
-    other o k f (Some g) p q n t = both_ways (eqb k o) (not-true (eqb k o) n) (eq-eqb _ _ (names k o g f q p (bytes-true _ _ t)))
+    other o k f m p q n t = grind (arith, bytes-true)
 
     share : (o : ℕ) (m : Option File) → fs o ≡ m → shares_name fs o m ≡ true → ⊥
-    share o None p t = both_ways false refl t
-    share o (Some f) p t =
-        let x = object-some (λ k. not (eqb k o) && named f.name (fs k)) t in
-        let y = and_parts (not (eqb x.0 o)) _ x.1 in
-        other o x.0 f (fs x.0) p refl y.0 y.1
+    share o None p t = cc
+    share o (Some f) p t = grind (arith, object-some, other)
 
 -- 14
 among-index : {A : Type 0} (xs : List A) (x d : A) → Among x xs → (i : ℕ) × (i < length xs) × (get_or xs i d ≡ x)
 among-index [] x d a = absurd a
 among-index (y ∷ ys) x d (inl e) = (0, omega arith, e)
-among-index (y ∷ ys) x d (inr a) = (let h = among-index ys x d a in (suc h.0, (let l = h.1 in omega arith), h.2))
+among-index (y ∷ ys) x d (inr a) = (let h = among-index ys x d a in (suc h.0, (omega arith), h.2))
 
 loadless-true : (bs : List (List Chunk)) (b : ℕ) (xs : List (List Chunk)) → some_loadless bs b xs ≡ true → (i : ℕ) × (i < length xs) × (load bs (b + i) ≡ 0)
-loadless-true bs b [] e = absurd (both_ways false refl e)
+loadless-true bs b [] e = cc
 loadless-true bs b (x ∷ xs) e =
     elim (or_cases (eqb (load bs b) 0) (some_loadless bs (suc b) xs) e) [
-      | inl h ↦ (0, omega arith, ap (load bs) (let g : b + 0 ≡ b = omega arith in g) ∙ eqb-true _ _ h)
-      | inr h ↦ (let r = loadless-true bs (suc b) xs h in (suc r.0, (let l = r.1 in omega arith), ap (load bs) (let g : b + suc r.0 ≡ suc b + r.0 = omega arith in g) ∙ r.2))
+      | inl h ↦ (grind arith)
+      | inr h ↦ (let r = loadless-true bs (suc b) xs h in (suc r.0, (omega arith), ap (load bs) (let g : b + suc r.0 ≡ suc b + r.0 = omega arith in g) ∙ r.2))
     ]
 
 loadless-from : (bs : List (List Chunk)) (b : ℕ) (xs : List (List Chunk)) (i : ℕ) → i < length xs → load bs (b + i) ≡ 0 → some_loadless bs b xs ≡ true
 loadless-from bs b [] i l e = absurd (omega arith)
-loadless-from bs b (x ∷ xs) zero l e = or_left _ _ (eq-eqb _ _ (ap (load bs) (let g : b ≡ b + 0 = omega arith in g) ∙ e))
-loadless-from bs b (x ∷ xs) (suc i) l e = or_right _ _ (loadless-from bs (suc b) xs i (omega arith) (ap (load bs) (let g : suc b + i ≡ b + suc i = omega arith in g) ∙ e))
+loadless-from bs b (x ∷ xs) zero l e = grind arith
+loadless-from bs b (x ∷ xs) (suc i) l e = grind (arith, loadless-from bs (suc b) xs i (omega arith))
 
 -- 14 does not come exactly where some block has load 0
 pub way-from : (n : ℕ) (bs : List (List Chunk)) → length bs ≡ n → no_way_on bs ≡ false → Way n bs
@@ -241,17 +212,17 @@ way-from n bs m e =
       | inl h ↦
           (let x = any-true blank_block bs (not-false _ h) in
           let y = among-index bs x.0 [] x.1 in
-          (y.0, (let l = y.1 in omega arith), load-none bs y.0 (λ r a t. absurd (none-recs (length x.0) r (subst (λ (z : List Chunk). Among r (records_of z)) (y.2 ∙ blank-block x.0 x.2) a)))))
+          (y.0, (omega arith), load-none bs y.0 (λ r a t. absurd (none-recs (length x.0) r (subst (λ (z : List Chunk). Among r (records_of z)) (y.2 ∙ blank-block x.0 x.2) a)))))
       | inr h ↦
           (let x = loadless-true bs 0 bs (not-false _ h) in
-          (x.0, (let l = x.1 in omega arith), ap (load bs) (let g : x.0 ≡ 0 + x.0 = omega arith in g) ∙ x.2))
+          (x.0, (omega arith), ap (load bs) (let g : x.0 ≡ 0 + x.0 = omega arith in g) ∙ x.2))
     ]
 
 pub way-to : (n : ℕ) (bs : List (List Chunk)) → length bs ≡ n → Way n bs → no_way_on bs ≡ false
 unfolding no_way_on
 way-to n bs m h =
     and_right (not (any blank_block bs)) (not (some_loadless bs 0 bs))
-    (not_from_true _ (loadless-from bs 0 bs h.0 (let l = h.1 in omega arith) (ap (load bs) (let g : 0 + h.0 ≡ h.0 = omega arith in g) ∙ h.2)))
+    (not_from_true _ (loadless-from bs 0 bs h.0 (omega arith) (grind arith)))
 
 -- 11 does not come: records of one serial are equal
 pub unique-from : (bs : List (List Chunk)) → first_clash [] (placed 0 bs) ≡ None → Unique (standing bs)
@@ -259,13 +230,13 @@ unique-from bs c x y m m' s =
     let al = clash-none (placed 0 bs) [] c in
     let h = all_placed 0 bs x m in
     let h' = all_placed 0 bs y m' in
-    sym h.2 ∙ al.new h.0 h'.0 h.1 h'.1 (ap (λ (z : Record). z.tag.serial) h.2 ∙ s ∙ ap (λ (z : Record). z.tag.serial) (sym h'.2)) ∙ h'.2
+    sym h.2 ∙ al.new h.0 h'.0 h.1 h'.1 (grind arith) ∙ h'.2
 
 -- 10 does not come: every record keeps the rules
 pub keeps-from : (bs : List (List Chunk)) → first_placed (λ q. not (keeps_rules q.what)) (placed 0 bs) ≡ None → (r : Record) → Among r (standing bs) → keeps_rules r ≡ true
 keeps-from bs b r m =
     let h = all_placed 0 bs r m in
-    subst (λ (z : Record). keeps_rules z ≡ true) h.2 (not-false _ (first-all (λ q. not (keeps_rules q.what)) (placed 0 bs) b h.0 h.1))
+    subst (λ (z : Record). keeps_rules z ≡ true) h.2 (grind (arith, first-all))
 
 module _ (w n p : ℕ) (bs : List (List Chunk)) where
   abbrev rs : List Record
@@ -309,9 +280,5 @@ module _ (w n p : ℕ) (bs : List (List Chunk)) where
 
   pub good-mount : Good w n p bs → verdict n p bs ≡ None
   good-mount g =
-      none-else (plain_if (not (sizes_fit n p)) 9) e10 (ap (λ (z : Bool). plain_if z 9) (not_from_true _ g.sizes))
-      (none-else (placed_fault 10 (first_placed broken-rule (placed 0 bs))) e11 (ap (placed_fault 10) (all_first broken-rule (placed 0 bs) (λ q a. not_from_true _ (g.rules q.what (placed-stands 0 bs q a)))))
-      (none-else (placed_fault 11 (first_clash [] (placed 0 bs))) e12 (ap (placed_fault 11) (none-clash (placed 0 bs) [] (record { old = λ q a r b. absurd b; new = λ q q' a a' s. g.unique q.what q'.what (placed-stands 0 bs q a) (placed-stands 0 bs q' a') s })))
-      (none-else (plain_if (two_named (files rs)) 12) e13 (ap (λ (z : Bool). plain_if z 12) (names-to (files rs) g.filed.names))
-      (none-else (plain_if (ltb (limit n p) (used_by (files rs))) 13) e14 (ap (λ (z : Bool). plain_if z 13) (le-ltb _ _ g.filed.room))
-      (ap (λ (z : Bool). plain_if z 14) (way-to n bs g.shape.blocks' g.way))))))
+      none-else (plain_if (not (sizes_fit n p)) 9) e10 (grind arith)
+      (grind (arith, none-else, broken-rule, e11, all_first, placed-stands, e12, none-clash, rs, e13, names-to, e14, way-to))

@@ -1,10 +1,9 @@
 -- The record of each change makes of the files what the accepted change makes of them. Assumes nothing.
-use Rattle.std.proofs.Common.{◌≡◌, ℕ, ◌<◌, ◌≤◌, true, false, ◌&&◌, eqb, leb, List, ◌∷◌, Some, None, Option, sym, refl, ap, ◌∙◌, inl, inr, arith}
-use Rattle.std.proofs.lemmas.Bool.{both_ways, cases_eq, cond-true, cond-false, and_from, eq-eqb, ne_eqb, le-leb}
+use Rattle.std.proofs.Common.{◌≡◌, ℕ, ◌<◌, ◌≤◌, true, List, ◌∷◌, Some, None, Option, refl, ap, ◌∙◌, arith}
 use Rattle.std.proofs.lemmas.List.{take_at}
 use Rattle.flash.specs.declared.chunks.Record.{Record}
-use Rattle.rules.specs.Lists.{Among, is_there}
-use Rattle.rules.specs.Records.{kind, kind_by, object, object_by, is_data}
+use Rattle.rules.specs.Lists.{Among}
+use Rattle.rules.specs.Records.{kind, kind_by, object, object_by}
 use Rattle.rules.specs.Reading.{header, present, files, File}
 use Rattle.rules.specs.Calls.{create, put, cut, rename, delete, opens, closes, collect, mount, record_by, name_of, long_of}
 use Rattle.rules.specs.Right.{changed, fresh, with_part, shortened, renamed}
@@ -16,23 +15,15 @@ use Rattle.rules.proofs.Adding.{files-other, create-file, put-file, cut-file, re
 -- a change of one object's file, seen at any object
 pub at-object : (rs : List Record) (r : Record) (o : ℕ) → object r ≡ o → ((s : Record) → Among s rs → s.tag.serial < r.tag.serial) → (f : Option File → Option File)
     → files (r ∷ rs) o ≡ f (files rs o) → (k : ℕ) → files (r ∷ rs) k ≡ changed (files rs) o f k
-at-object rs r o of l f e k =
-    elim (cases_eq k o) [
-      | inl p ↦ ap (files (r ∷ rs)) p ∙ e ∙ ap (λ (z : ℕ). f (files rs z)) (sym p) ∙ sym (cond-true (eqb k o) (f (files rs k)) (files rs k) (eq-eqb _ _ p))
-      | inr n ↦ files-other rs r l k (λ q. n (sym q ∙ of)) ∙ sym (cond-false (eqb k o) (f (files rs k)) (files rs k) (ne_eqb _ _ n))
-    ]
+at-object rs r o of l f e k = grind (arith, files-other)
 
 pub some-header : (rs : List Record) (o : ℕ) → present rs o ≡ true → (h : Record) × (header rs o ≡ Some h)
 unfolding present
-some-header rs o e = go (header rs o) refl e
-  where
-    go : (m : Option Record) → header rs o ≡ m → is_there m ≡ true → (h : Record) × (header rs o ≡ Some h)
-    go None p q = absurd (both_ways false refl q)
-    go (Some h) p q = (h, p)
+some-header rs o e = grind arith
 
 pub data-kind : (j : ℕ) → 1 ≤ j → j ≤ 1000 → kind_by j ≡ data_k
 unfolding kind_by
-data-kind j a b = cond-true (leb 1 j && leb j 1000) data_k _ (and_from _ _ (le-leb _ _ a) (le-leb _ _ b))
+data-kind j a b = grind arith
 
 pub adding-is-right : AddingIsRight
 unfolding object kind kind_by
@@ -47,7 +38,7 @@ adding-is-right w n rs (put o j bs) last ok k =
     let of : object r ≡ o = ap (λ (z : Kind). object_by z o) kd in
     let h = some-header rs o ok.0 in
     at-object rs r o of last (with_part j bs)
-    (put-file rs r last o of h.0 h.1 j bs (ap is_data kd) refl (take_at bs _ _ refl)) k
+    (grind (arith, put-file, take_at)) k
 adding-is-right w n rs (cut o l) last ok k =
     let r = record_by w n (files rs) (cut o l) in
     let of : object r ≡ o = omega arith in

@@ -1,22 +1,20 @@
 -- What the checks of a change leave: a record that keeps the rules, and files that mount accepts. Assumes nothing.
-use Rattle.std.proofs.Common.{◌≡◌, ℕ, zero, suc, ◌+◌, ◌-◌, ◌≤◌, Bool, true, false, cond, not, ◌&&◌, eqb, leb, ◌⊎◌, List, [], ◌∷◌, ◌++◌, length, take, replicate, Some, None, Option, sym, refl, ap, ◌∙◌, subst, inl, inr, arith, length-append}
-use Rattle.std.proofs.lemmas.Bool.{both_ways, cases_eq, and_parts, and_from, not-false, not_from_false, eq-eqb, ne_eqb, ltb-false, leb-true, leb-false, le-leb, cond-true, cond-false, cond_both}
+use Rattle.std.proofs.Common.{◌≡◌, ℕ, zero, suc, ◌+◌, ◌≤◌, true, false, cond, not, ◌&&◌, eqb, leb, ◌⊎◌, List, [], ◌∷◌, ◌++◌, length, take, replicate, Some, None, Option, sym, refl, ap, subst, inr, arith, length-append}
+use Rattle.std.proofs.lemmas.Bool.{and_from, not-false, ltb-false, le-leb}
 use Rattle.flash.specs.declared.chunks.Record.{Record}
-use Rattle.rules.specs.Lists.{is_there, largest, within}
-use Rattle.rules.specs.Records.{kind, kind_by, is_header, first_byte, rules_by, keeps_rules}
+use Rattle.rules.specs.Lists.{is_there, within}
+use Rattle.rules.specs.Records.{kind, kind_by, is_header, first_byte, keeps_rules}
 use Rattle.rules.specs.Reading.{named, name_taken, present, files, File, name_in, Files, parts_up, used_of, used_up, used_by}
 use Rattle.rules.specs.Calls.{Call, create, put, cut, rename, delete, record_by, next, padded, name_of, long_of}
 use Rattle.rules.specs.Right.{changed, fresh, with_part, shortened, renamed}
 use Rattle.rules.specs.Refusals.{Store, Table, first_of, recs, is_open, no_serial, early_table, room_table, refusal}
 use Rattle.flash.specs.declared.chunks.Chunk.{Chunk}
 use Rattle.flash.specs.Blocks.{standing}
-use Rattle.rules.specs.declared.kinds.Kind.{Kind}
-use Rattle.rules.specs.declared.kinds.Kind.TheVariants.{Data as data_k, Header as header_k, CutHeader as cut_k, Marker as marker_k, Other as other_k}
 use Rattle.rules.proofs.Removal.{chunk-there, highest-least}
 use Rattle.rules.proofs.Adding.{data-number}
 use Rattle.rules.proofs.Changes.{data-kind}
 use Rattle.rules.proofs.Counting.{object-in}
-use Rattle.rules.proofs.Filed.{some_is, some-none, there-some, header_at, file-at, present-file}
+use Rattle.rules.proofs.Filed.{some_is, some-none, header_at, file-at, present-file}
 use Rattle.rules.proofs.Keeping.{Good}
 use Rattle.rules.proofs.Objects.{object-false}
 use Rattle.rules.proofs.Accepts.{bytes-from, Names, file-range}
@@ -33,66 +31,44 @@ Clear (r ∷ rs) = (r.1 ≡ false) × Clear rs
 
 pub clear-all : (t : Table) → Numbered t → first_of t ≡ 0 → Clear t
 clear-all [] n e = tt
-clear-all (r ∷ rs) n e = go r.1 refl e (clear-all rs n.1)
-  where
-    go : (b : Bool) → r.1 ≡ b → cond b r.0 (first_of rs) ≡ 0 → (first_of rs ≡ 0 → Clear rs) → Clear (r ∷ rs)
-    go true p q ih = absurd (let l = n.0 in omega arith)
-    go false p q ih = (p, ih q)
+clear-all (r ∷ rs) n e = grind (arith, clear-all rs n.1)
 
 pub clear_none : (t more : Table) → Clear t → first_of (t ++ more) ≡ first_of more
 clear_none [] more c = refl
-clear_none (r ∷ rs) more c = cond-false r.1 r.0 (first_of (rs ++ more)) c.0 ∙ clear_none rs more c.1
+clear_none (r ∷ rs) more c = grind (arith, clear_none rs more c.1)
 
 within-view : (a b k : ℕ) → within a b k ≡ true → (a ≤ k) × (k ≤ b)
-within-view a b k e = (let x = and_parts (leb a k) (leb k b) e in (leb-true a k x.0, leb-true k b x.1))
+within-view a b k e = grind arith
 
 within-from : (a b k : ℕ) → a ≤ k → k ≤ b → within a b k ≡ true
-within-from a b k l h = and_from _ _ (le-leb a k l) (le-leb k b h)
+within-from a b k l h = grind arith
 
 -- what files use
 one-plus : (a b : ℕ) → a ≤ b → 1 + a ≤ 1 + b
 one-plus a b l = omega arith
 
-some-le : (b c : Bool) (x y : ℕ) → (b ≡ true → c ≡ true) → x ≤ y → cond b 1 0 + x ≤ cond c 1 0 + y
-some-le true true x y f l = omega arith
-some-le true false x y f l = absurd (both_ways false refl (f refl))
-some-le false true x y f l = omega arith
-some-le false false x y f l = omega arith
-
 parts-mono : (part part' : ℕ → Option (List ℕ)) (k : ℕ) → ((j : ℕ) → is_there (part j) ≡ true → is_there (part' j) ≡ true) → parts_up part k ≤ parts_up part' k
 parts-mono part part' zero h = omega arith
-parts-mono part part' (suc k) h = some-le (is_there (part (suc k))) (is_there (part' (suc k))) (parts_up part k) (parts_up part' k) (h (suc k)) (parts-mono part part' k h)
-
-sum-le : (a b c d : ℕ) → a ≤ b → c ≤ d → a + c ≤ b + d
-sum-le a b c d l h = omega arith
+parts-mono part part' (suc k) h = grind (arith, parts-mono part part' k h)
 
 up-mono : (fs gs : Files) (k : ℕ) → ((o : ℕ) → used_of (fs o) ≤ used_of (gs o)) → used_up fs k ≤ used_up gs k
 up-mono fs gs zero h = omega arith
-up-mono fs gs (suc k) h = sum-le _ _ _ _ (h (257 + k)) (up-mono fs gs k h)
+up-mono fs gs (suc k) h = grind (arith, up-mono fs gs k h)
 
 by-mono : (fs gs : Files) → ((o : ℕ) → used_of (fs o) ≤ used_of (gs o)) → used_by fs ≤ used_by gs
 unfolding used_by
 by-mono fs gs h = up-mono fs gs 255 h
 
-le-self : (a : ℕ) → a ≤ a
-le-self a = omega arith
-
 changed-mono : (fs : Files) (o : ℕ) (F : Option File → Option File) → ((m : Option File) → used_of (F m) ≤ used_of m) → used_by (changed fs o F) ≤ used_by fs
-changed-mono fs o F h =
-    by-mono (changed fs o F) fs
-    (λ k. cond_both (eqb k o) (F (fs k)) (fs k) (λ z. used_of z ≤ used_of (fs k)) (λ e. h (fs k)) (λ e. le-self (used_of (fs k))))
+changed-mono fs o F h = grind (arith, by-mono)
 
 cut-there : (n k : ℕ) (m : Option (List ℕ)) → is_there (cond (leb k n) m None) ≡ true → is_there m ≡ true
-cut-there n k m e = go (leb k n) e
-  where
-    go : (b : Bool) → is_there (cond b m None) ≡ true → is_there m ≡ true
-    go true h = h
-    go false h = absurd (both_ways false refl h)
+cut-there n k m e = grind arith
 
 cut-less : (n : ℕ) (m : Option File) → used_of (shortened n m) ≤ used_of m
 unfolding used_of
 cut-less n None = omega arith
-cut-less n (Some f) = one-plus _ _ (parts-mono (λ k. cond (leb k n) (f.part k) None) f.part 1000 (λ j. cut-there n j (f.part j)))
+cut-less n (Some f) = search (arith, one-plus, parts-mono, cut-there)
 
 rename-less : (name : List ℕ) (m : Option File) → used_of (renamed name m) ≤ used_of m
 unfolding used_of
@@ -110,37 +86,14 @@ Free fs o name = (k : ℕ) (h : File) → (k ≡ o → ⊥) → fs k ≡ Some h 
 names-changed : (fs : Files) (o : ℕ) (F : Option File → Option File) → Names fs
     → ((g : File) → F (fs o) ≡ Some g → ((f : File) × (fs o ≡ Some f) × (f.name ≡ g.name)) ⊎ Free fs o g.name)
     → Names (changed fs o F)
-names-changed fs o F names new a b f g p q s =
-    elim (cases_eq a o) [
-      | inl x ↦ elim (cases_eq b o) [
-        | inl y ↦ x ∙ sym y
-        | inr y ↦ one a b f g x y (here a f x p) (there b g y q) s
-      ]
-      | inr x ↦ elim (cases_eq b o) [
-        | inl y ↦ sym (one b a g f y x (here b g y q) (there a f x p) (sym s))
-        | inr y ↦ names a b f g (there a f x p) (there b g y q) s
-      ]
-    ]
-  where
-    here : (k : ℕ) (h : File) → k ≡ o → changed fs o F k ≡ Some h → F (fs o) ≡ Some h
-    here k h x e = ap (λ (z : ℕ). F (fs z)) (sym x) ∙ sym (cond-true (eqb k o) (F (fs k)) (fs k) (eq-eqb _ _ x)) ∙ e
-
-    there : (k : ℕ) (h : File) → (k ≡ o → ⊥) → changed fs o F k ≡ Some h → fs k ≡ Some h
-    there k h x e = sym (cond-false (eqb k o) (F (fs k)) (fs k) (ne_eqb _ _ x)) ∙ e
-
-    one : (a b : ℕ) (f g : File) → a ≡ o → (b ≡ o → ⊥) → F (fs o) ≡ Some f → fs b ≡ Some g → f.name ≡ g.name → a ≡ b
-    one a b f g x y e h s =
-        elim (new f e) [
-          | inl v ↦ x ∙ names o b v.0 g v.1 h (v.2 ∙ s)
-          | inr v ↦ absurd (v b g y h (sym s))
-        ]
+names-changed fs o F names new a b f g p q s = search arith
 
 name_free : (fs : Files) (o : ℕ) (name : List ℕ) → ((k : ℕ) (f : File) → fs k ≡ Some f → (257 ≤ k) × (k ≤ 511)) → name_taken fs o name ≡ false → Free fs o name
 unfolding name_taken
 name_free fs o name range e k f n p s =
     let b = range k f p in
     object-false (λ k. not (eqb k o) && named name (fs k)) k e b.0 b.1
-    (and_from _ _ (not_from_false _ (ne_eqb _ _ n)) (ap (named name) p ∙ bytes-from _ _ s))
+    (grind (arith, bytes-from))
 
 -- lengths
 rep-long : (k x : ℕ) → length (replicate k x) ≡ k
@@ -148,7 +101,7 @@ rep-long zero x = refl
 rep-long (suc k) x = ap suc (rep-long k x)
 
 pad-long : (w : ℕ) (bs : List ℕ) → length bs ≤ w → length (padded w bs) ≡ w
-pad-long w bs l = omega (arith, length-append bs (replicate (w - length bs) 0), rep-long (w - length bs) 0)
+pad-long w bs l = grind (arith, length-append, rep-long)
 
 take_long : (k : ℕ) (xs : List ℕ) → k ≤ length xs → length (take k xs) ≡ k
 take_long zero xs l = refl
@@ -156,8 +109,7 @@ take_long (suc k) [] l = absurd (omega arith)
 take_long (suc k) (x ∷ xs) l = ap suc (take_long k xs (omega arith))
 
 name-long : (bs : List ℕ) → 41 ≤ length bs → 1 ≤ first_byte bs → first_byte bs ≤ 40 → (1 ≤ length (name_in bs)) × (length (name_in bs) ≤ 40)
-name-long [] l a b = absurd (omega arith)
-name-long (k ∷ bs) l a b = (let e = take_long k bs (omega arith) in (omega arith, omega arith))
+name-long k l a b = grind (arith, take_long)
 
 -- what rule 10 says of a header
 pub record HeaderRule (h : Record) : Type 0 where
@@ -167,21 +119,7 @@ pub record HeaderRule (h : Record) : Type 0 where
 
 pub header-rule : (h : Record) → is_header (kind h) ≡ true → keeps_rules h ≡ true → HeaderRule h
 unfolding keeps_rules
-header-rule h k e = go (kind h) k (and_parts (within 1 4294967295 h.tag.serial) _ e).1
-  where
-    at : (x : Bool) → (x && (leb h.tag.third 1000 && within 1 40 (first_byte h.bytes))) ≡ true → HeaderRule h
-    at x e =
-        let a = and_parts x _ e in
-        let b = and_parts (leb h.tag.third 1000) _ a.1 in
-        let c = within-view 1 40 (first_byte h.bytes) b.1 in
-        record { low = c.0; high = c.1; short = leb-true _ _ b.0 }
-
-    go : (z : Kind) → is_header z ≡ true → rules_by h z ≡ true → HeaderRule h
-    go data_k a b = absurd (both_ways false refl a)
-    go header_k a b = at _ b
-    go cut_k a b = at _ b
-    go marker_k a b = absurd (both_ways false refl a)
-    go other_k a b = absurd (both_ways false refl a)
+header-rule h k e = search arith
 
 -- a present file: its object number, its name's length and its length
 pub record FileRule (o : ℕ) (f : File) : Type 0 where
@@ -204,15 +142,15 @@ file-rule w n p bs big g o f e =
       named = subst (λ (z : List ℕ). 1 ≤ length z) (sym a.name') l.0;
       brief = subst (λ (z : List ℕ). length z ≤ 40) (sym a.name') l.1;
       short = (let m = a.long' in let c = r.short in
-          omega (arith, highest-least (standing bs) o 1000 (λ j t. let x = chunk-there (standing bs) o j t in let y = (data-number x.0 x.2.isdata).1 in let z = x.2.at in omega arith)));
+          omega (arith, highest-least (standing bs) o 1000 (grind (arith, chunk-there, data-number))));
     }
 
 -- the rules of the new record
 serial-in : (rs : List Record) → no_serial rs ≡ false → within 1 4294967295 (next rs) ≡ true
-serial-in rs e = (let l = leb-false 4294967295 (largest (λ r. r.tag.serial) rs) e in within-from 1 4294967295 (next rs) (omega arith) (omega arith))
+serial-in rs e = grind arith
 
 second-in : (o : ℕ) → 257 ≤ o → o ≤ 511 → within (0x10000000 + 257) (0x10000000 + 511) (0x10000000 + o) ≡ true
-second-in o l h = within-from (0x10000000 + 257) (0x10000000 + 511) (0x10000000 + o) (omega arith) (omega arith)
+second-in o l h = grind arith
 
 module _ (w : ℕ) (big : 2048 ≤ w) (s : Store) (g : Good w s.n s.p s.flash.blocks) (held : (o : ℕ) → is_open s o ≡ true → present (recs s) o ≡ true) where
   abbrev fs : Files
@@ -222,10 +160,10 @@ module _ (w : ℕ) (big : 2048 ≤ w) (s : Store) (g : Good w s.n s.p s.flash.bl
   Fits call = (s.running ≡ true) × Fit w s.n s.p (next (recs s)) (files (recs s)) call
 
   there : (o : ℕ) → present (recs s) o ≡ true → (f : File) × (files (recs s) o ≡ Some f)
-  there o e = there-some (files (recs s) o) (sym (present-file (recs s) o) ∙ e)
+  there o e = grind (arith, present-file)
 
   present-still : (o : ℕ) → present (recs s) o ≡ true → (rs : List Record) → ((o : ℕ) → files rs o ≡ files (recs s) o) → present rs o ≡ true
-  present-still o e rs h = present-file rs o ∙ ap is_there (h o) ∙ sym (present-file (recs s) o) ∙ e
+  present-still o e rs h = grind (arith, present-file)
 
   pub fit-create : (o : ℕ) (name : List ℕ) → refusal s (create o name) ≡ 0 → Fits (create o name)
   unfolding keeps_rules kind kind_by
@@ -236,7 +174,7 @@ module _ (w : ℕ) (big : 2048 ≤ w) (s : Store) (g : Good w s.n s.p s.flash.bl
         not-false _ cl.0,
         record {
           rules = and_from _ _ (serial-in (recs s) cl.1.1.1.1.1.0) (and_from _ _ (second-in o ob.0 ob.1) (within-from 1 40 (length name) nm.0 nm.1));
-          bytes' = pad-long w (length name ∷ name) (let l = nm.1 in omega arith);
+          bytes' = pad-long w (length name ∷ name) (omega arith);
           serial' = refl;
           filed = record {
             room = ltb-false _ _ cl.1.1.1.1.1.1.0;
@@ -258,17 +196,16 @@ module _ (w : ℕ) (big : 2048 ≤ w) (s : Store) (g : Good w s.n s.p s.flash.bl
       let r : Record = record_by w (next (recs s)) (files (recs s)) (put o j bs) in (
         not-false _ cl.0,
         record {
-          rules = and_from _ _ (serial-in (recs s) cl.1.1.1.1.0) (ap (rules_by r) (data-kind j jn.0 jn.1) ∙ and_from _ _ (within-from 1 1000 j jn.0 jn.1) (and_from _ _ (within-from 257 511 o fr.low fr.high) (within-from 1 2048 (length bs) ln.0 ln.1)));
-          bytes' = pad-long w bs (let l = ln.1 in omega arith);
+          rules = grind (arith, serial-in, data-kind, within-from);
+          bytes' = pad-long w bs (omega arith);
           serial' = refl;
-          filed = record { room = ltb-false _ _ cl.1.1.1.1.1.0; names = names-changed (files (recs s)) o (with_part j bs) g.filed.names (λ x q. inl (kept (files (recs s) o) refl x q)) };
-          allowed = λ rs q. (present-still o pr rs q, jn.0, jn.1);
+          filed = grind (arith, names-changed, kept);
+          allowed = grind (arith, present-still);
         },
       )
     where
       kept : (m : Option File) → files (recs s) o ≡ m → (x : File) → with_part j bs m ≡ Some x → (f : File) × (files (recs s) o ≡ Some f) × (f.name ≡ x.name)
-      kept None p x q = absurd (some-none x (sym q))
-      kept (Some f) p x q = (f, p, ap (λ (z : File). z.name) (some_is _ x q))
+      kept k p x q = grind arith
 
   pub fit_cut : (o l : ℕ) → refusal s (cut o l) ≡ 0 → Fits (cut o l)
   unfolding keeps_rules kind kind_by
@@ -280,20 +217,19 @@ module _ (w : ℕ) (big : 2048 ≤ w) (s : Store) (g : Good w s.n s.p s.flash.bl
       let nm : (1 ≤ length (name_of (files (recs s) o))) × (length (name_of (files (recs s) o)) ≤ 40) = subst (λ (z : Option File). (1 ≤ length (name_of z)) × (length (name_of z) ≤ 40)) (sym fl.1) (fr.named, fr.brief) in (
         not-false _ cl.0,
         record {
-          rules = and_from _ _ (serial-in (recs s) cl.1.1.1.1.0) (and_from _ _ (second-in o fr.low fr.high) (and_from _ _ (le-leb l 1000 (ltb-false 1000 l cl.1.0)) (within-from 1 40 (length (name_of (files (recs s) o))) nm.0 nm.1)));
-          bytes' = pad-long w (length (name_of (files (recs s) o)) ∷ name_of (files (recs s) o)) (let l = nm.1 in omega arith);
+          rules = and_from _ _ (serial-in (recs s) cl.1.1.1.1.0) (grind (arith, second-in, within-from));
+          bytes' = pad-long w (length (name_of (files (recs s) o)) ∷ name_of (files (recs s) o)) (omega arith);
           serial' = refl;
           filed = record {
-            room = (let x = g.filed.room in let y = changed-mono (files (recs s)) o (shortened l) (cut-less l) in omega arith);
-            names = names-changed (files (recs s)) o (shortened l) g.filed.names (λ x q. inl (kept (files (recs s) o) refl x q));
+            room = (grind (arith, changed-mono, cut-less));
+            names = grind (arith, names-changed, kept);
           };
           allowed = λ rs q. present-still o pr rs q;
         },
       )
     where
       kept : (m : Option File) → files (recs s) o ≡ m → (x : File) → shortened l m ≡ Some x → (f : File) × (files (recs s) o ≡ Some f) × (f.name ≡ x.name)
-      kept None p x q = absurd (some-none x (sym q))
-      kept (Some f) p x q = (f, p, ap (λ (z : File). z.name) (some_is _ x q))
+      kept k p x q = grind arith
 
   pub fit-rename : (o : ℕ) (name : List ℕ) → refusal s (rename o name) ≡ 0 → Fits (rename o name)
   unfolding keeps_rules kind kind_by
@@ -308,7 +244,7 @@ module _ (w : ℕ) (big : 2048 ≤ w) (s : Store) (g : Good w s.n s.p s.flash.bl
         not-false _ cl.0,
         record {
           rules = and_from _ _ (serial-in (recs s) cl.1.1.1.1.1.1.0) (and_from _ _ (second-in o ob.0 ob.1) (and_from _ _ (le-leb _ 1000 sh) (within-from 1 40 (length name) nm.0 nm.1)));
-          bytes' = pad-long w (length name ∷ name) (let l = nm.1 in omega arith);
+          bytes' = pad-long w (length name ∷ name) (omega arith);
           serial' = refl;
           filed = record {
             room = (let x = g.filed.room in let y = changed-mono (files (recs s)) o (renamed name) (rename-less name) in omega arith);
@@ -319,8 +255,7 @@ module _ (w : ℕ) (big : 2048 ≤ w) (s : Store) (g : Good w s.n s.p s.flash.bl
       )
     where
       new : (m : Option File) (x : File) → renamed name m ≡ Some x → name ≡ x.name
-      new None x q = absurd (some-none x (sym q))
-      new (Some f) x q = ap (λ (z : File). z.name) (some_is _ x q)
+      new k x q = grind arith
 
   pub fit-delete : (o : ℕ) → refusal s (delete o) ≡ 0 → Fits (delete o)
   unfolding keeps_rules kind kind_by
@@ -329,13 +264,10 @@ module _ (w : ℕ) (big : 2048 ≤ w) (s : Store) (g : Good w s.n s.p s.flash.bl
       let ob = within-view 257 511 o (not-false _ cl.1.0) in (
         not-false _ cl.0,
         record {
-          rules = and_from _ _ (serial-in (recs s) cl.1.1.1.1.0) (and_from _ _ (second-in o ob.0 ob.1) refl);
+          rules = grind (arith, serial-in, second-in);
           bytes' = pad-long w [] (omega arith);
           serial' = refl;
-          filed = record {
-            room = (let x = g.filed.room in let y = changed-mono (files (recs s)) o (λ m. None) delete-less in omega arith);
-            names = names-changed (files (recs s)) o (λ m. None) g.filed.names (λ x q. absurd (some-none x (sym q)));
-          };
+          filed = grind (arith, changed-mono, delete-less, names-changed, some-none);
           allowed = λ rs q. tt;
         },
       )

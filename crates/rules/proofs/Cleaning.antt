@@ -1,11 +1,11 @@
 -- A cleaning with room for its copies loses nothing. Assumes nothing.
 use Rattle.std.proofs.Common.{◌≡◌, ℕ, zero, suc, ◌+◌, ◌<◌, ◌≤◌, Bool, true, false, cond, not, eqb, leb, List, [], ◌∷◌, ◌++◌, length, get_or, set, replicate, Some, None, Option, sym, refl, ap, ◌∙◌, subst, inl, inr, arith, length-set, get_or-set_other, get_or-set_same}
-use Rattle.std.proofs.lemmas.Bool.{both_ways, cases_eq, cases_Bool, and_from, not_from_false, eqb-true, ne_eqb, eqb-false, le-leb}
+use Rattle.std.proofs.lemmas.Bool.{cases_eq, cases_Bool, and_from, not_from_false, eqb-true, ne_eqb, le-leb}
 use Rattle.flash.specs.declared.chunks.Record.{Record}
 use Rattle.rules.specs.Lists.{Among, any, is_there, count, first_where, next_if, or_else}
 use Rattle.rules.specs.Records.{is_blank}
 use Rattle.rules.specs.Reading.{once, wanted}
-use Rattle.rules.specs.Places.{is_blank_s, is_open_s, Flash, Act, copying, erasing, clean, clean_block, to_clean, load, load_list, makes_load, runs, copies, copy_at, copy_place, open_place, blank_place, blank_in, at_block, start_of, programmed, least, better, add_place, is_program, does}
+use Rattle.rules.specs.Places.{is_blank_s, is_open_s, Flash, Act, copying, erasing, clean, clean_block, to_clean, load, load_list, makes_load, runs, copies, copy_place, open_place, blank_place, blank_in, start_of, programmed, least, better, add_place, is_program, does}
 use Rattle.rules.specs.Laws.{Unique, Same}
 use Rattle.rules.specs.Safety.{SafeAct, SafeRun, AllBlank, BlankTail, Sound, RoomFor, CleaningIsSafe, CleaningMakesAPlace}
 use Rattle.flash.specs.declared.chunks.Chunk.{Chunk}
@@ -15,7 +15,7 @@ use Rattle.rules.specs.declared.standings.Standing.{Standing}
 use Rattle.rules.specs.declared.standings.Standing.TheVariants.{Blank as blank_s, Open as open_s, Closed as closed_s}
 use Rattle.rules.proofs.Lists.{any-true, keep-among, keep-from}
 use Rattle.rules.proofs.Copies.{wanted_same}
-use Rattle.rules.proofs.Blocks.{set-in, now-in, now-other, put_keeps, put-cases, cons-rest}
+use Rattle.rules.proofs.Blocks.{set-in, now-in, now-other, put_keeps, put-cases}
 
 -- the lowest place that passes
 abbrev pub Where : {A : Type 0} → (A → Bool) → List A → Option ℕ → Type 0
@@ -23,18 +23,9 @@ Where {A} t xs None = (i : ℕ) (d : A) → i < length xs → t (get_or xs i d) 
 Where {A} t xs (Some i) = (i < length xs) × ((d : A) → t (get_or xs i d) ≡ true)
 
 module _ {A : Type 0} (t : A → Bool) where
-  pub where_step : (x : A) (xs : List A) (b : Bool) → t x ≡ b → (m : Option ℕ) → Where t xs m → Where t (x ∷ xs) (next_if b m)
-  where_step x xs true e m w = (omega arith, λ d. e)
-  where_step x xs false e None w = at
-    where
-      at : (i : ℕ) (d : A) → i < length (x ∷ xs) → t (get_or (x ∷ xs) i d) ≡ true → ⊥
-      at zero d l h = both_ways (t x) e h
-      at (suc i) d l h = w i d (omega arith) h
-  where_step x xs false e (Some i) w = (let l = w.0 in omega arith, λ d. w.1 d)
-
   pub found : (xs : List A) → Where t xs (first_where t xs)
   found [] = λ i d l h. omega arith
-  found (x ∷ xs) = where_step x xs (t x) refl (first_where t xs) (found xs)
+  found (x ∷ xs) = grind (arith, found xs)
 
   pub found_at : (xs : List A) (i : ℕ) → first_where t xs ≡ Some i → (i < length xs) × ((d : A) → t (get_or xs i d) ≡ true)
   found_at xs i e = subst (Where t xs) e (found xs)
@@ -48,25 +39,23 @@ module _ {A : Type 0} (t : A → Bool) where
   -- the first that passes, where none did
   pub first-new : (xs : List A) (b : ℕ) (y : A) → b < length xs → first_where t xs ≡ None → t y ≡ true → first_where t (set xs b y) ≡ Some b
   first-new [] b y l e f = absurd (omega arith)
-  first-new (x ∷ xs) zero y l e f = ap (λ (z : Bool). next_if z (first_where t xs)) f
+  first-new (x ∷ xs) zero y l e f = grind arith
   first-new (x ∷ xs) (suc b) y l e f = go (t x) (first_where t xs) e (λ e'. first-new xs b y (omega arith) e' f)
     where
       go : (c : Bool) (m : Option ℕ) → next_if c m ≡ None → (m ≡ None → first_where t (set xs b y) ≡ Some b) → next_if c (first_where t (set xs b y)) ≡ Some (suc b)
-      go true m h k = absurd (let z : ◌≡◌ {A = ℕ} 0 1 = cc in omega arith)
-      go false None h k = ap (next_if false) (k refl)
-      go false (Some i) h k = absurd (let z : ◌≡◌ {A = ℕ} 0 1 = cc in omega arith)
+      go z m h k = grind arith
 
 pub set_is : {A : Type 0} (xs : List A) (b : ℕ) (y d : A) → b < length xs → get_or xs b d ≡ y → set xs b y ≡ xs
 set_is [] b y d l e = refl
-set_is {A} (x ∷ xs) zero y d l e = ap {B = List A} (λ z. z ∷ xs) (sym e)
-set_is {A} (x ∷ xs) (suc b) y d l e = ap {B = List A} (λ zs. x ∷ zs) (set_is xs b y d (omega arith) e)
+set_is {A} (x ∷ xs) zero y d l e = grind arith
+set_is {A} (x ∷ xs) (suc b) y d l e = grind (arith, set_is xs b y d (omega arith) e)
 
 pub set-swap : {A : Type 0} (xs : List A) (a b : ℕ) (y z : A) → (a ≡ b → ⊥) → set (set xs a y) b z ≡ set (set xs b z) a y
 set-swap [] a b y z n = refl
 set-swap (x ∷ xs) zero zero y z n = absurd (n refl)
 set-swap (x ∷ xs) zero (suc b) y z n = refl
 set-swap (x ∷ xs) (suc a) zero y z n = refl
-set-swap {A} (x ∷ xs) (suc a) (suc b) y z n = ap {B = List A} (λ zs. x ∷ zs) (set-swap xs a b y z (λ e. n (ap suc e)))
+set-swap {A} (x ∷ xs) (suc a) (suc b) y z n = grind (arith, set-swap xs a b y z (λ e. n (ap suc e)))
 
 -- the first blank chunk of a block whose blank chunks are its last
 pub record Spot (cs : List Chunk) (c : ℕ) : Type 0 where
@@ -95,37 +84,11 @@ all-get [] j a l = absurd (omega arith)
 all-get (c ∷ cs) zero a l = a.0
 all-get (c ∷ cs) (suc j) a l = all-get cs j a.1 (omega arith)
 
-pub spot_step : (x : Chunk) (cs : List Chunk) → is_blank x ≡ false → ((ys : List Chunk) → BlankTail ys → BlankTail (x ∷ ys)) → (m : Option ℕ) → SpotAt cs m → SpotAt (x ∷ cs) (next_if false m)
-spot_step x cs e f None h = rw e (omega arith)
-spot_step x cs e f (Some c) h =
-    record {
-      free = h.free;
-      tail = λ r. f (set cs c (Holds r)) (h.tail r);
-      left = λ r. rw e (omega (arith, h.left r));
-      less = λ r. rw e (omega (arith, h.less r));
-      rest = later;
-    }
-  where
-    later : (j : ℕ) → suc c ≤ j → j < length (x ∷ cs) → get_or (x ∷ cs) j Damaged ≡ Blank
-    later zero l k = absurd (omega arith)
-    later (suc j) l k = h.rest j (omega arith) (omega arith)
-
 pub spot : (cs : List Chunk) → BlankTail cs → SpotAt cs (first_where is_blank cs)
 spot [] t = refl
-spot (Blank ∷ cs) t =
-    record {
-      free = refl;
-      tail = λ r. all_tail cs t;
-      left = λ r. omega (arith, all-count cs t);
-      less = λ r. omega arith;
-      rest = later;
-    }
-  where
-    later : (j : ℕ) → 0 ≤ j → j < length (Blank ∷ cs) → get_or (Blank ∷ cs) j Damaged ≡ Blank
-    later zero l k = refl
-    later (suc j) l k = all-get cs j t (omega arith)
-spot (Damaged ∷ cs) t = spot_step Damaged cs refl (λ ys h. h) (first_where is_blank cs) (spot cs t)
-spot (Holds r ∷ cs) t = spot_step (Holds r) cs refl (λ ys h. h) (first_where is_blank cs) (spot cs t)
+spot (Blank ∷ cs) t = grind (arith, all_tail, all-count, all-get)
+spot (Damaged ∷ cs) t = search (arith, spot cs t)
+spot (Holds r ∷ cs) t = grind (arith, spot cs t)
 
 pub blanks-all : (p : ℕ) → AllBlank (replicate p Blank)
 blanks-all zero = tt
@@ -143,16 +106,13 @@ module _ (p : ℕ) (s : Flash) (ok : Sound p s) (b c : ℕ) (r : Record) (inside
   abbrev pub after : Flash
   after = programmed s b c r
 
-  pub in_blocks : b < length s.blocks
-  in_blocks = (let e = ok.same_long in omega arith)
-
   pub new_block : get_or after.blocks b [] ≡ set block c (Holds r)
   unfolding programmed
-  new_block = get_or-set_same s.blocks b (set (get_or s.blocks b []) c (Holds r)) [] in_blocks
+  new_block = grind (arith, get_or-set_same)
 
   pub other_block : (i : ℕ) → (i ≡ b → ⊥) → get_or after.blocks i [] ≡ get_or s.blocks i []
   unfolding programmed
-  other_block i n = get_or-set_other s.blocks b i (set (get_or s.blocks b []) c (Holds r)) [] n
+  other_block i n = grind (arith, get_or-set_other)
 
   pub other_stand : (i : ℕ) (d : Standing) → (i ≡ b → ⊥) → get_or after.stand i d ≡ get_or s.stand i d
   unfolding programmed
@@ -163,55 +123,30 @@ module _ (p : ℕ) (s : Flash) (ok : Sound p s) (b c : ℕ) (r : Record) (inside
   new_stand d = get_or-set_same s.stand b _ d inside
 
   pub not_blank : get_or after.stand b closed_s ≡ blank_s → ⊥
-  not_blank e = go (eqb (suc c) (length block)) (sym (new_stand closed_s) ∙ e)
-    where
-      go : (z : Bool) → cond z closed_s open_s ≡ blank_s → ⊥
-      go true h = (let z : ◌≡◌ {A = ℕ} 0 1 = cc in omega arith)
-      go false h = (let z : ◌≡◌ {A = ℕ} 0 1 = cc in omega arith)
+  not_blank e = grind (arith, new_stand)
 
   pub open_left : get_or after.stand b closed_s ≡ open_s → 1 ≤ count is_blank (set block c (Holds r))
-  open_left e = go (eqb (suc c) (length block)) refl (sym (new_stand closed_s) ∙ e)
-    where
-      go : (z : Bool) → eqb (suc c) (length block) ≡ z → cond z closed_s open_s ≡ open_s → 1 ≤ count is_blank (set block c (Holds r))
-      go true h k = absurd (let z : ◌≡◌ {A = ℕ} 0 1 = cc in omega arith)
-      go false h k = (let n : suc c ≡ length (get_or s.blocks b []) → ⊥ = eqb-false (suc c) (length (get_or s.blocks b [])) h in let l = at.left r in omega arith)
+  open_left e = grind (arith, new_stand)
 
   pub long_after : length after.stand ≡ length after.blocks
   unfolding programmed
-  long_after = length-set s.stand b _ ∙ ok.same_long ∙ sym (length-set s.blocks b _)
+  long_after = grind (arith, length-set)
 
   pub sound_after : Sound p after
-  sound_after = record {
-    blank_is = λ i e. elim (cases_eq i b) [
-      | inl q ↦ absurd (not_blank (subst (λ (z : ℕ). get_or after.stand z closed_s ≡ blank_s) q e))
-      | inr n ↦ other_block i n ∙ ok.blank_is i (sym (other_stand i closed_s n) ∙ e)
-    ];
-    open_is = λ i e. elim (cases_eq i b) [
-      | inl q ↦ subst (λ (z : ℕ). BlankTail (get_or after.blocks z []) × (1 ≤ count is_blank (get_or after.blocks z []))) (sym q)
-          (subst (λ (z : List Chunk). BlankTail z × (1 ≤ count is_blank z)) (sym new_block) (at.tail r, open_left (subst (λ (z : ℕ). get_or after.stand z closed_s ≡ open_s) q e)))
-      | inr n ↦ subst (λ (z : List Chunk). BlankTail z × (1 ≤ count is_blank z)) (sym (other_block i n)) (ok.open_is i (sym (other_stand i closed_s n) ∙ e))
-    ];
-    same_long = long_after;
-  }
+  sound_after = grind (arith, not_blank, other_block, other_stand, new_block, open_left, long_after)
 
 -- standings
 pub open_is_lem : (x : Standing) → is_open_s x ≡ true → x ≡ open_s
-open_is_lem blank_s e = absurd (both_ways false refl e)
-open_is_lem open_s e = refl
-open_is_lem closed_s e = absurd (both_ways false refl e)
+open_is_lem k e = grind arith
 
 pub blank-is : (x : Standing) → is_blank_s x ≡ true → x ≡ blank_s
-blank-is blank_s e = refl
-blank-is open_s e = absurd (both_ways false refl e)
-blank-is closed_s e = absurd (both_ways false refl e)
+blank-is k e = grind arith
 
 pub closed_or : (z : Bool) → is_blank_s (cond z closed_s open_s) ≡ false
-closed_or true = refl
-closed_or false = refl
+closed_or k = grind arith
 
 pub first-blank : (p : ℕ) → 1 ≤ p → first_where is_blank (replicate p Blank) ≡ Some 0
-first-blank zero l = absurd (omega arith)
-first-blank (suc p) l = refl
+first-blank k l = grind arith
 
 -- where the next copy goes
 pub record Next (p : ℕ) (s : Flash) (k : ℕ) (r : Record) : Type 0 where
@@ -237,7 +172,7 @@ module _ (p : ℕ) (s : Flash) (ok : Sound p s) (k : ℕ) (r : Record) where
       same = cc
 
       l' : suc k ≤ count is_blank (get_or s.blocks b [])
-      l' = subst (λ (z : ℕ). suc k ≤ count is_blank (get_or s.blocks z [])) same l
+      l' = grind arith
 
       still : (k ≡ 0 → ⊥) → first_where is_open_s (set s.stand b (cond (eqb (suc c) (length (get_or s.blocks b []))) closed_s open_s)) ≡ Some b
       still n =
@@ -259,13 +194,13 @@ module _ (p : ℕ) (s : Flash) (ok : Sound p s) (k : ℕ) (r : Record) where
       o d = open_is_lem _ ((found_at is_open_s s.stand b e).1 d)
 
       go : (m : Option ℕ) → first_where is_blank (get_or s.blocks b []) ≡ m → SpotAt (get_or s.blocks b []) m → Next p s k r
-      go None f h = absurd (omega (arith, (ok.open_is b (o closed_s)).1))
+      go None f h = grind (arith, o)
       go (Some c) f h = record {
         b = b;
         c = c;
-        is = ap (λ (m : Option ℕ). or_else (blank_in s.blocks m) (blank_place s)) e ∙ ap (λ (m : Option ℕ). or_else (at_block b m) (blank_place s)) f;
+        is = grind arith;
         inside = inside;
-        unclosed = λ q. let g : get_or s.stand b blank_s ≡ open_s = o blank_s in let z : ◌≡◌ {A = ℕ} 0 1 = cc in omega arith;
+        unclosed = grind (arith, o);
         at = h;
         sound = sound_after p s ok b c r inside h;
         room = room_open b c e inside o h room;
@@ -277,12 +212,12 @@ module _ (p : ℕ) (s : Flash) (ok : Sound p s) (k : ℕ) (r : Record) where
   next_blank none i e l = record {
     b = i;
     c = 0;
-    is = ap (λ (m : Option ℕ). or_else (blank_in s.blocks m) (start_of (first_where is_blank_s s.stand))) none ∙ ap start_of e;
+    is = grind arith;
     inside = inside;
-    unclosed = λ q. let g : get_or s.stand i blank_s ≡ blank_s = o blank_s in let z : ◌≡◌ {A = ℕ} 0 1 = cc in omega arith;
+    unclosed = grind (arith, o);
     at = at;
     sound = sound_after p s ok i 0 r inside at;
-    room = elim (cases_eq k 0) [ inl z ↦ inr (inr z) | inr n ↦ inr (inl (i, opened n, more)) ];
+    room = grind (arith, opened, more);
   }
     where
       inside : i < length s.stand
@@ -301,24 +236,16 @@ module _ (p : ℕ) (s : Flash) (ok : Sound p s) (k : ℕ) (r : Record) where
       long = ap (λ (z : List Chunk). length z) whole ∙ blanks-long p
 
       at : Spot (get_or s.blocks i []) 0
-      at = subst (SpotAt (get_or s.blocks i [])) (ap (first_where is_blank) whole ∙ first-blank p (omega arith)) (spot (get_or s.blocks i []) (all_tail (get_or s.blocks i []) full))
+      at = grind (arith, whole, first-blank, spot, all_tail, full)
 
       opened : (k ≡ 0 → ⊥) → first_where is_open_s (set s.stand i (cond (eqb 1 (length (get_or s.blocks i []))) closed_s open_s)) ≡ Some i
-      opened n =
-          ap (λ (z : Bool). first_where is_open_s (set s.stand i (cond z closed_s open_s))) (ne_eqb 1 (length (get_or s.blocks i [])) (λ q. omega (arith, long)))
-          ∙ first-new is_open_s s.stand i open_s inside none refl
+      opened n = grind (arith, long, first-new, inside)
 
       more : k ≤ count is_blank (get_or (programmed s i 0 r).blocks i [])
-      more = subst (λ (z : List Chunk). k ≤ count is_blank z) (sym (new_block p s ok i 0 r inside at)) (let g = at.less r in omega (arith, all-count (get_or s.blocks i []) full, long))
+      more = subst (λ (z : List Chunk). k ≤ count is_blank z) (sym (new_block p s ok i 0 r inside at)) (grind (arith, at, all-count, full, long))
 
   pub next : RoomFor p s (suc k) → Next p s k r
-  next room = go (first_where is_open_s s.stand) refl room
-    where
-      go : (m : Option ℕ) → first_where is_open_s s.stand ≡ m → RoomFor p s (suc k) → Next p s k r
-      go (Some b) e h = next_open b e h
-      go None e (inl ((i, f), l)) = next_blank e i f l
-      go None e (inr (inl (b, f, l))) = absurd (let z : ◌≡◌ {A = ℕ} 0 1 = cc in omega arith)
-      go None e (inr (inr z)) = absurd (omega arith)
+  next room = grind (arith, next_open, next_blank)
 
 -- what the copies of a block's records leave
 pub record Copied (p m : ℕ) (s s' : Flash) (v : ℕ) (rs : List Record) (acts : List Act) : Type 0 where
@@ -334,9 +261,9 @@ pub record Copied (p m : ℕ) (s s' : Flash) (v : ℕ) (rs : List Record) (acts 
   pub erases : count (λ a. not (is_program a)) acts ≡ 0
 
 pub chunk_in : (cs : List Chunk) (c : ℕ) (r : Record) → get_or cs c Damaged ≡ Blank → Among r (records_of (set cs c (Holds r)))
-chunk_in [] c r e = absurd (let z : ◌≡◌ {A = ℕ} 0 1 = cc in omega arith)
+chunk_in [] c r e = cc
 chunk_in (x ∷ cs) zero r e = inl refl
-chunk_in (x ∷ cs) (suc c) r e = cons-rest x (records_of (set cs c (Holds r))) r (chunk_in cs c r e)
+chunk_in (x ∷ cs) (suc c) r e = grind (arith, chunk_in cs c r e)
 
 -- what stands after a new record is programmed
 pub adding-stands : (bs : List (List Chunk)) (b c : ℕ) (r : Record) → b < length bs → get_or (get_or bs b []) c Damaged ≡ Blank → Same (r ∷ standing bs) (standing (put_at bs b c (Holds r)))
@@ -351,12 +278,10 @@ adding-stands bs b c r inside free = record {
 -- one copy, into another block than v
 module _ (bs : List (List Chunk)) (v b c : ℕ) (r : Record) (apart : v ≡ b → ⊥) (inside : b < length bs) (free : get_or (get_or bs b []) c Damaged ≡ Blank) where
   pub swapped : put_at (set bs v []) b c (Holds r) ≡ set (put_at bs b c (Holds r)) v []
-  swapped =
-      ap (λ (z : List Chunk). set (set bs v []) b (set z c (Holds r))) (get_or-set_other bs v b [] [] (λ e. apart (sym e)))
-      ∙ set-swap bs v b [] (set (get_or bs b []) c (Holds r)) apart
+  swapped = grind (arith, get_or-set_other, set-swap)
 
   pub free-too : get_or (get_or (set bs v []) b []) c Damaged ≡ Blank
-  free-too = ap (λ (z : List Chunk). get_or z c Damaged) (get_or-set_other bs v b [] [] (λ e. apart (sym e))) ∙ free
+  free-too = grind (arith, get_or-set_other)
 
   pub one-others : (x : Record) → Among x (standing (set bs v [])) → Among x (standing (set (put_at bs b c (Holds r)) v []))
   one-others x a = subst (λ (z : List (List Chunk)). Among x (standing z)) swapped (put_keeps (set bs v []) b c (Holds r) x free-too a)
@@ -369,7 +294,7 @@ module _ (bs : List (List Chunk)) (v b c : ℕ) (r : Record) (apart : v ≡ b �
   pub one_same : Among r (standing bs) → Same (standing bs) (standing (put_at bs b c (Holds r)))
   one_same here = record {
     to = λ x a. put_keeps bs b c (Holds r) x free a;
-    from = λ x a. elim (put-cases bs b c (Holds r) x a) [ inl e ↦ subst (λ (z : Record). Among z (standing bs)) (cc) here | inr d ↦ d ];
+    from = grind (arith, put-cases);
   }
 
 module _ (p m : ℕ) (s : Flash) (v : ℕ) (r : Record) (rs : List Record) (ok : Sound p s) (cl : get_or s.stand v blank_s ≡ closed_s) (here : Among r (records_of (get_or s.blocks v []))) (n : Next p s (length rs + m) r) where
@@ -377,10 +302,10 @@ module _ (p m : ℕ) (s : Flash) (v : ℕ) (r : Record) (rs : List Record) (ok :
   then' = programmed s n.b n.c r
 
   pub apart : v ≡ n.b → ⊥
-  apart e = n.unclosed (subst (λ (z : ℕ). get_or s.stand z blank_s ≡ closed_s) e cl)
+  apart e = grind arith
 
   pub inside' : n.b < length s.blocks
-  inside' = (let a = n.inside in let e = ok.same_long in omega arith)
+  inside' = grind arith
 
   pub block_kept : get_or then'.blocks v [] ≡ get_or s.blocks v []
   block_kept = other_block p s ok n.b n.c r n.inside n.at v apart
@@ -405,20 +330,18 @@ module _ (p m : ℕ) (s : Flash) (v : ℕ) (r : Record) (rs : List Record) (ok :
       to = λ x a. h.same.to x ((one_same s.blocks v n.b n.c r apart inside' n.at.free (now-in s.blocks v r here)).to x a);
       from = λ x a. (one_same s.blocks v n.b n.c r apart inside' n.at.free (now-in s.blocks v r here)).from x (h.same.from x a);
     };
-    programs = (let e = h.programs in omega arith);
-    erases = (let e = h.erases in omega arith);
+    programs = (omega arith);
+    erases = (omega arith);
   }
 
   pub placed : Copied p m s (runs then' (copies then' rs)) v (r ∷ rs) (copying n.b n.c r ∷ copies then' rs) → Copied p m s (runs s (copies s (r ∷ rs))) v (r ∷ rs) (copies s (r ∷ rs))
-  placed h =
-      subst (λ (x : Option (ℕ × ℕ)). Copied p m s (runs s (copy_at r x ++ copies (runs s (copy_at r x)) rs)) v (r ∷ rs) (copy_at r x ++ copies (runs s (copy_at r x)) rs)) (sym n.is) h
+  placed h = grind arith
 
 pub copied : (p m : ℕ) (rs : List Record) (s : Flash) (v : ℕ) → Sound p s → get_or s.stand v blank_s ≡ closed_s → ((r : Record) → Among r rs → Among r (records_of (get_or s.blocks v [])))
     → RoomFor p s (length rs + m) → Copied p m s (runs s (copies s rs)) v rs (copies s rs)
-copied p m [] s v ok cl here room =
-    record { sound = ok; closed = cl; room = subst (RoomFor p s) (let e : 0 + m ≡ m = omega arith in e) room; safe = tt; block_v = refl; others = λ r a. a; moved = λ r a. absurd a; same = record { to = λ r a. a; from = λ r a. a }; programs = refl; erases = refl }
+copied p m [] s v ok cl here room = grind arith
 copied p m (r ∷ rs) s v ok cl here room =
-    let n : Next p s (length rs + m) r = next p s ok (length rs + m) r (subst (RoomFor p s) (let e : suc (length rs) + m ≡ suc (length rs + m) = omega arith in e) room) in
+    let n : Next p s (length rs + m) r = next p s ok (length rs + m) r (grind arith) in
     let h : Among r (records_of (get_or s.blocks v [])) = here r (inl refl) in
     placed p m s v r rs ok cl h n (stepped p m s v r rs ok cl h n
     (copied p m rs (programmed s n.b n.c r) v n.sound (closed_kept p m s v r rs ok cl h n)
@@ -431,7 +354,7 @@ LeastAt b ss (Some q) = (i : ℕ) × (q.0 ≡ b + i) × (get_or ss i blank_s ≡
 
 pub shift : (b : ℕ) (x : Standing) (ss : List Standing) (m : Option (ℕ × ℕ)) → LeastAt (suc b) ss m → LeastAt b (x ∷ ss) m
 shift b x ss None h = tt
-shift b x ss (Some q) h = (suc h.0, (let e = h.1 in omega arith), h.2)
+shift b x ss (Some q) h = (suc h.0, (omega arith), h.2)
 
 pub least-better : (b l : ℕ) (ss : List Standing) (m : Option (ℕ × ℕ)) → LeastAt (suc b) ss m → LeastAt b (closed_s ∷ ss) (better b l m)
 least-better b l ss None h = (0, omega arith, refl)
@@ -439,11 +362,11 @@ least-better b l ss (Some q) h = go (leb l q.1)
   where
     go : (z : Bool) → LeastAt b (closed_s ∷ ss) (Some (cond z (b, l) q))
     go true = (0, omega arith, refl)
-    go false = (suc h.0, (let e = h.1 in omega arith), h.2)
+    go false = (suc h.0, (omega arith), h.2)
 
 pub least_at : (f : ℕ → ℕ) (ss : List Standing) (b : ℕ) → LeastAt b ss (least f b ss)
 least_at f [] b = tt
-least_at f (blank_s ∷ ss) b = shift b blank_s ss (least f (suc b) ss) (least_at f ss (suc b))
+least_at f (blank_s ∷ ss) b = grind (arith, least_at f ss (suc b), shift)
 least_at f (open_s ∷ ss) b = shift b open_s ss (least f (suc b) ss) (least_at f ss (suc b))
 least_at f (closed_s ∷ ss) b = least-better b (f b) ss (least f (suc b) ss) (least_at f ss (suc b))
 
@@ -454,11 +377,7 @@ safe-append (x ∷ acts) more s a b = (a.0, safe-append acts more (does s x) a.1
 pub once-among : (xs : List Record) → Unique xs → (r : Record) → Among r xs → Among r (once xs)
 once-among [] q r a = a
 once-among (x ∷ xs) q r (inl e) = inl e
-once-among (x ∷ xs) q r (inr a) =
-    elim (cases_eq r.tag.serial x.tag.serial) [
-      | inl e ↦ inl (q x r (inl refl) (inr a) (sym e))
-      | inr n ↦ inr (keep-among (λ s. not (eqb s.tag.serial x.tag.serial)) (once xs) r (once-among xs (λ y z b c. q y z (inr b) (inr c)) r a) (not_from_false _ (ne_eqb _ _ n)))
-    ]
+once-among (x ∷ xs) q r (inr a) = grind (arith, once-among xs (λ y z b c. q y z (inr b) (inr c)) r a, keep-among)
 
 pub from-once : (xs : List Record) (x : Record) → Among x (once xs) → Among x xs
 from-once [] x a = a
@@ -467,12 +386,12 @@ from-once (y ∷ ys) x (inr b) = inr (from-once ys x (keep-from (λ z. not (eqb 
 
 pub in_load : (bs : List (List Chunk)) (v : ℕ) (r : Record) → Among r (load_list bs v) → Among r (records_of (get_or bs v []))
 unfolding load_list
-in_load bs v r a = from-once (records_of (get_or bs v [])) r (keep-from (makes_load (standing bs) (standing (set bs v []))) (once (records_of (get_or bs v []))) r a).0
+in_load bs v r a = grind (arith, from-once, keep-from)
 
 module _ (p : ℕ) (s : Flash) (ok : Sound p s) (q : Unique (standing s.blocks)) (v : ℕ) (cl : get_or s.stand v blank_s ≡ closed_s) (room : RoomFor p s (load s.blocks v)) where
   pub done : Copied p 0 s (runs s (copies s (load_list s.blocks v))) v (load_list s.blocks v) (copies s (load_list s.blocks v))
   unfolding load
-  done = copied p 0 (load_list s.blocks v) s v ok cl (in_load s.blocks v) (subst (RoomFor p s) (let e : length (load_list s.blocks v) ≡ length (load_list s.blocks v) + 0 = omega arith in e) room)
+  done = copied p 0 (load_list s.blocks v) s v ok cl (in_load s.blocks v) (grind arith)
 
   pub erasable : SafeAct (runs s (copies s (load_list s.blocks v))).blocks (erasing v)
   unfolding load_list makes_load
@@ -490,7 +409,7 @@ module _ (p : ℕ) (s : Flash) (ok : Sound p s) (q : Unique (standing s.blocks))
       ]
 
   pub block-safe : SafeRun s (copies s (load_list s.blocks v) ++ (erasing v ∷ []))
-  block-safe = safe-append (copies s (load_list s.blocks v)) (erasing v ∷ []) s done.safe (erasable, tt)
+  block-safe = grind (arith, safe-append, done, erasable)
 
 pub cleaning-is-safe : CleaningIsSafe
 unfolding clean to_clean
@@ -499,15 +418,15 @@ cleaning-is-safe p s ok q room = go (least (load s.blocks) 0 s.stand) refl (leas
     go : (m : Option (ℕ × ℕ)) → least (load s.blocks) 0 s.stand ≡ m → LeastAt 0 s.stand m → SafeRun s (clean_block s m)
     go None f h = tt
     go (Some v) f h =
-        let e : v.0 ≡ h.0 = (let g = h.1 in omega arith) in
+        let e : v.0 ≡ h.0 = (omega arith) in
         let cl : get_or s.stand v.0 blank_s ≡ closed_s = subst (λ (z : ℕ). get_or s.stand z blank_s ≡ closed_s) (sym e) h.2 in
         block-safe p s ok q v.0 cl (room v f)
 
 -- the place that an erase after the copies makes
 pub closed_in : (ss : List Standing) (v : ℕ) → get_or ss v blank_s ≡ closed_s → (v < length ss) × ((d : Standing) → get_or ss v d ≡ closed_s)
-closed_in [] v e = absurd (let z : ◌≡◌ {A = ℕ} 0 1 = cc in omega arith)
+closed_in [] v e = cc
 closed_in (x ∷ ss) zero e = (omega arith, λ d. e)
-closed_in (x ∷ ss) (suc v) e = (let h = closed_in ss v e in (let l = h.0 in omega arith, h.1))
+closed_in (x ∷ ss) (suc v) e = grind (arith, closed_in ss v e)
 
 module _ {A : Type 0} (t : A → Bool) where
   pub count_set : (xs : List A) (v : ℕ) (y : A) → v < length xs → ((d : A) → t (get_or xs v d) ≡ false) → t y ≡ true → count t (set xs v y) ≡ suc (count t xs)
@@ -531,27 +450,11 @@ module _ (p : ℕ) (s : Flash) (v : ℕ) (ok : Sound p s) (cl : get_or s.stand v
   v_closed = (closed_in s.stand v cl).1
 
   pub open_same : first_where is_open_s erased.stand ≡ first_where is_open_s s.stand
-  open_same = first-same is_open_s s.stand v blank_s (λ d. ap is_open_s (v_closed d)) refl
+  open_same = grind (arith, first-same, v_closed)
 
   pub place_open : (b : ℕ) → first_where is_open_s s.stand ≡ Some b → is_there (add_place erased) ≡ true
   unfolding add_place open_place
-  place_open b e = go (first_where is_blank (get_or s.blocks b [])) refl (spot (get_or s.blocks b []) (ok.open_is b (o closed_s)).0)
-    where
-      o : (d : Standing) → get_or s.stand b d ≡ open_s
-      o d = open_is_lem _ ((found_at is_open_s s.stand b e).1 d)
-
-      apart' : b ≡ v → ⊥
-      apart' q = (let g : get_or s.stand b blank_s ≡ open_s = o blank_s in let h : get_or s.stand b blank_s ≡ closed_s = subst (λ (z : ℕ). get_or s.stand z blank_s ≡ closed_s) (sym q) cl in let z : ◌≡◌ {A = ℕ} 0 1 = cc in omega arith)
-
-      rest : Option (ℕ × ℕ)
-      rest = cond (leb 2 (count is_blank_s erased.stand)) (blank_place erased) None
-
-      go : (m : Option ℕ) → first_where is_blank (get_or s.blocks b []) ≡ m → SpotAt (get_or s.blocks b []) m → is_there (or_else (blank_in erased.blocks (first_where is_open_s erased.stand)) rest) ≡ true
-      go None f h = absurd (omega (arith, (ok.open_is b (o closed_s)).1))
-      go (Some c) f h =
-          ap (λ (m : Option ℕ). is_there (or_else (blank_in erased.blocks m) rest)) (open_same ∙ e)
-          ∙ ap (λ (z : List Chunk). is_there (or_else (at_block b (first_where is_blank z)) rest)) (get_or-set_other s.blocks v b _ [] apart')
-          ∙ ap (λ (m : Option ℕ). is_there (or_else (at_block b m) rest)) f
+  place_open b e = grind (arith, spot, found_at, open_same, get_or-set_other)
 
   pub place_blank : first_where is_open_s s.stand ≡ None → (i : ℕ) → first_where is_blank_s s.stand ≡ Some i → is_there (add_place erased) ≡ true
   unfolding add_place open_place blank_place
@@ -561,24 +464,14 @@ module _ (p : ℕ) (s : Flash) (v : ℕ) (ok : Sound p s) (cl : get_or s.stand v
       ∙ go (first_where is_blank_s erased.stand) (found is_blank_s erased.stand)
     where
       two : 2 ≤ count is_blank_s erased.stand
-      two = omega (
-        arith,
-        count_set is_blank_s s.stand v blank_s v_in (λ d. ap is_blank_s (v_closed d)) refl,
-        count-some is_blank_s s.stand i blank_s (found_at is_blank_s s.stand i e).0 ((found_at is_blank_s s.stand i e).1 blank_s),
-      )
+      two = grind (arith, count_set, v_in, v_closed, count-some, found_at)
 
       go : (m : Option ℕ) → Where is_blank_s erased.stand m → is_there (start_of m) ≡ true
-      go None f = absurd (f v closed_s (rw length-set v_in) (ap is_blank_s (get_or-set_same s.stand v blank_s closed_s v_in)))
+      go None f = absurd (f v closed_s (rw length-set v_in) (grind (arith, get_or-set_same, v_in)))
       go (Some k) f = refl
 
   pub place_after : RoomFor p s 1 → is_there (add_place erased) ≡ true
-  place_after room = go (first_where is_open_s s.stand) refl room
-    where
-      go : (m : Option ℕ) → first_where is_open_s s.stand ≡ m → RoomFor p s 1 → is_there (add_place erased) ≡ true
-      go (Some b) e h = place_open b e
-      go None e (inl ((i, f), l)) = place_blank e i f
-      go None e (inr (inl (b, f, l))) = absurd (let z : ◌≡◌ {A = ℕ} 0 1 = cc in omega arith)
-      go None e (inr (inr z)) = absurd (omega arith)
+  place_after room = grind (arith, place_open, place_blank)
 
 pub runs_append : (acts more : List Act) (s : Flash) → runs s (acts ++ more) ≡ runs (runs s acts) more
 runs_append [] more s = refl
@@ -598,11 +491,7 @@ cleaning-makes-a-place p s ok blank_there q e light =
     rs = load_list s.blocks v
 
     closed_v : (m : Option (ℕ × ℕ)) → LeastAt 0 s.stand m → m ≡ Some q → get_or s.stand v blank_s ≡ closed_s
-    closed_v None h f = absurd (let z : ◌≡◌ {A = ℕ} 0 1 = cc in omega arith)
-    closed_v (Some x) h f =
-        let g : x ≡ q = cc in
-        let k : v ≡ h.0 = (let a : x.0 ≡ q.0 = ap (λ (z : ℕ × ℕ). z.0) g in let b = h.1 in omega arith) in
-        subst (λ (z : ℕ). get_or s.stand z blank_s ≡ closed_s) (sym k) h.2
+    closed_v k h f = grind arith
 
     cl : get_or s.stand v blank_s ≡ closed_s
     cl = closed_v (to_clean s) (unfold to_clean in least_at (load s.blocks) s.stand 0) e

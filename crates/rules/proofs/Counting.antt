@@ -1,22 +1,20 @@
 -- The chunks that the files use are the records that are in a file. Assumes nothing.
-use Rattle.std.proofs.Common.{◌≡◌, ℕ, zero, suc, ◌+◌, ◌-◌, ◌<◌, ◌≤◌, Bool, true, false, cond, ◌&&◌, eqb, leb, ◌⊎◌, List, [], ◌∷◌, ◌++◌, map, length, Some, None, Option, sym, refl, ap, ◌∙◌, subst, inl, inr, arith, length-append}
+use Rattle.std.proofs.Common.{◌≡◌, not, ℕ, zero, suc, ◌+◌, ◌<◌, ◌≤◌, Bool, true, false, cond, eqb, ◌⊎◌, List, [], ◌∷◌, ◌++◌, map, length, Some, None, Option, sym, refl, ap, ◌∙◌, subst, inl, inr, arith, length-append}
 use lib.ListN.{length-map}
-use Rattle.std.proofs.lemmas.Bool.{both_ways, cases_eq, cond-true, cond-false, and_parts, leb-true, eq-eqb, ne_eqb}
+use Rattle.std.proofs.lemmas.Bool.{both_ways, cases_eq, cond-true, cond-false, ne_eqb}
 use Rattle.flash.specs.declared.chunks.Record.{Record}
-use Rattle.rules.specs.Lists.{Among, is_there, cons_if, keep, within}
-use Rattle.rules.specs.Records.{kind, object, object_by, is_data, is_header, keeps_rules, rules_by}
+use Rattle.rules.specs.Lists.{Among, is_there, cons_if, keep}
+use Rattle.rules.specs.Records.{kind, object, is_data, is_header, keeps_rules}
 use Rattle.rules.specs.Reading.{header, chunk, present, in_file, files, File, once, used, Files, parts_up, used_of, used_up, used_by}
 use Rattle.rules.specs.Laws.{Unique, UsedByFiles}
 use Rattle.rules.proofs.Pigeons.{Apart}
 use Rattle.rules.specs.declared.kinds.Kind.{Kind}
-use Rattle.rules.specs.declared.kinds.Kind.TheVariants.{Data as data_k, Header as header_k, CutHeader as cut_k, Marker as marker_k, Other as other_k}
 use Rattle.rules.proofs.Lists.{keep-among, keep-from}
 use Rattle.rules.proofs.Pigeons.{pigeons}
 use Rattle.rules.proofs.Blocks.{among-left, among-right, among_cases}
 use Rattle.rules.proofs.Adding.{data-number}
 use Rattle.rules.proofs.Cleaning.{once-among, from-once}
-use Rattle.rules.proofs.Used.{keep_apart, once-apart}
-use Rattle.rules.proofs.Filed.{some_is, there-some, HeaderIn, DataIn, filed-view, header-filed, data-filed, header_of, chunk_of, header_at, chunk-at, FileAt, file-at, present-file, bytes-there}
+use Rattle.rules.proofs.Filed.{there-some, HeaderIn, DataIn, filed-view, header-filed, data-filed, header_of, chunk_of, header_at, chunk-at, FileAt, file-at, present-file, bytes-there}
 
 abbrev Slot : Type 0
 Slot = ℕ × ℕ
@@ -36,11 +34,7 @@ slots_up fs m (suc k) = file_slots (fs (257 + k)) (257 + k) m ++ slots_up fs m k
 
 parts-long : (part : ℕ → Option (List ℕ)) (o k : ℕ) → length (part_slots part o k) ≡ parts_up part k
 parts-long part o zero = refl
-parts-long part o (suc k) = go (is_there (part (suc k))) (parts-long part o k)
-  where
-    go : (b : Bool) → length (part_slots part o k) ≡ parts_up part k → length (cons_if b (o, suc k) (part_slots part o k)) ≡ cond b 1 0 + parts_up part k
-    go true e = omega arith
-    go false e = omega arith
+parts-long part o (suc k) = grind (arith, parts-long part o k)
 
 one_more : (a b : ℕ) → a ≡ b → suc a ≡ 1 + b
 one_more a b e = omega arith
@@ -52,7 +46,7 @@ file-long (Some f) o = one_more _ _ (parts-long f.part o 1000)
 
 slots-long : (fs : Files) (k : ℕ) → length (slots_up fs 1000 k) ≡ used_up fs k
 slots-long fs zero = refl
-slots-long fs (suc k) = omega (arith, length-append (file_slots (fs (257 + k)) (257 + k) 1000) (slots_up fs 1000 k), file-long (fs (257 + k)) (257 + k), slots-long fs k)
+slots-long fs (suc k) = grind (arith, slots-long fs k, length-append, file_slots, file-long)
 
 -- which places they are
 record PartSlot (part : ℕ → Option (List ℕ)) (o m : ℕ) (q : Slot) : Type 0 where
@@ -65,24 +59,18 @@ parts_from : (part : ℕ → Option (List ℕ)) (o k : ℕ) (q : Slot) → Among
 parts_from part o zero q a = absurd a
 parts_from part o (suc k) q a = go (is_there (part (suc k))) refl (λ b. parts_from part o k q b) a
   where
-    up : PartSlot part o k q → PartSlot part o (suc k) q
-    up v = record { of = v.of; low = v.low; high = (let h = v.high in omega arith); there = v.there }
-
     go : (b : Bool) → is_there (part (suc k)) ≡ b → (Among q (part_slots part o k) → PartSlot part o k q) → Among q (cons_if b (o, suc k) (part_slots part o k)) → PartSlot part o (suc k) q
-    go true e ih (inl p) = record { of = ap (λ (z : Slot). z.0) (sym p); low = (let x : suc k ≡ q.1 = ap (λ (z : Slot). z.1) p in omega arith); high = (let x : suc k ≡ q.1 = ap (λ (z : Slot). z.1) p in omega arith); there = ap (λ (z : Slot). is_there (part z.1)) (sym p) ∙ e }
-    go true e ih (inr b) = up (ih b)
-    go false e ih b = up (ih b)
+    go k e ih b = grind arith
 
 parts_in : (part : ℕ → Option (List ℕ)) (o k j : ℕ) → 1 ≤ j → j ≤ k → is_there (part j) ≡ true → Among (o, j) (part_slots part o k)
 parts_in part o zero j l h t = absurd (omega arith)
 parts_in part o (suc k) j l h t = elim (cases_eq j (suc k)) [ inl e ↦ now e | inr n ↦ later (is_there (part (suc k))) (parts_in part o k j l (omega arith) t) ]
   where
     now : j ≡ suc k → Among (o, j) (cons_if (is_there (part (suc k))) (o, suc k) (part_slots part o k))
-    now e = subst (λ (b : Bool). Among (o, j) (cons_if b (o, suc k) (part_slots part o k))) (sym (ap (λ (z : ℕ). is_there (part z)) (sym e) ∙ t)) (inl (λ i. (o, sym e i)))
+    now e = grind arith
 
     later : (b : Bool) → Among (o, j) (part_slots part o k) → Among (o, j) (cons_if b (o, suc k) (part_slots part o k))
-    later true a = inr a
-    later false a = a
+    later k a = grind arith
 
 record FileSlot (m : Option File) (o k : ℕ) (q : Slot) : Type 0 where
   of : q.0 ≡ o
@@ -91,9 +79,7 @@ record FileSlot (m : Option File) (o k : ℕ) (q : Slot) : Type 0 where
   how : (q.1 ≡ 0) ⊎ PartSlot file.part o k q
 
 file-from : (m : Option File) (o k : ℕ) (q : Slot) → Among q (file_slots m o k) → FileSlot m o k q
-file-from None o k q a = absurd a
-file-from (Some f) o k q (inl p) = record { of = ap (λ (z : Slot). z.0) (sym p); file = f; is = refl; how = inl (ap (λ (z : Slot). z.1) (sym p)) }
-file-from (Some f) o k q (inr a) = (let v = parts_from f.part o k q a in record { of = v.of; file = f; is = refl; how = inr v })
+file-from m o k q a = grind (arith, parts_from)
 
 record SlotUp (fs : Files) (m k : ℕ) (q : Slot) : Type 0 where
   low : 257 ≤ q.0
@@ -105,22 +91,18 @@ slots-from fs m zero q a = absurd a
 slots-from fs m (suc k) q a =
     elim (among_cases (file_slots (fs (257 + k)) (257 + k) m) (slots_up fs m k) q a) [
       | inl b ↦ (let v = file-from (fs (257 + k)) (257 + k) m q b in let e = v.of in
-          record { low = omega arith; high = omega arith; at = subst (λ (z : ℕ). FileSlot (fs z) z m q) (sym e) v })
+          record { low = omega arith; high = omega arith; at = grind arith })
       | inr b ↦ (let v = slots-from fs m k q b in let h = v.high in record { low = v.low; high = omega arith; at = v.at })
     ]
 
 file-in : (m : Option File) (f : File) (o k j : ℕ) → m ≡ Some f → (j ≡ 0) ⊎ ((1 ≤ j) × (j ≤ k) × (is_there (f.part j) ≡ true)) → Among (o, j) (file_slots m o k)
-file-in m f o k j e h = subst (λ (z : Option File). Among (o, j) (file_slots z o k)) (sym e) (at h)
-  where
-    at : (j ≡ 0) ⊎ ((1 ≤ j) × (j ≤ k) × (is_there (f.part j) ≡ true)) → Among (o, j) (file_slots (Some f) o k)
-    at (inl z) = inl (λ i. (o, sym z i))
-    at (inr w) = inr (parts_in f.part o k j w.0 w.1 w.2)
+file-in m f o k j e h = grind (arith, parts_in)
 
 slots-in : (fs : Files) (m k o j : ℕ) (f : File) → 257 ≤ o → o < 257 + k → fs o ≡ Some f → (j ≡ 0) ⊎ ((1 ≤ j) × (j ≤ m) × (is_there (f.part j) ≡ true)) → Among (o, j) (slots_up fs m k)
 slots-in fs m zero o j f l h e w = absurd (omega arith)
 slots-in fs m (suc k) o j f l h e w =
     elim (cases_eq o (257 + k)) [
-      | inl x ↦ among-left (file_slots (fs (257 + k)) (257 + k) m) (slots_up fs m k) (o, j) (subst (λ (z : ℕ). Among (o, j) (file_slots (fs z) z m)) x (file-in (fs o) f o m j e w))
+      | inl x ↦ grind (arith, among-left, file_slots, slots_up, file-in)
       | inr n ↦ among-right (file_slots (fs (257 + k)) (257 + k) m) (slots_up fs m k) (o, j) (slots-in fs m k o j f l (omega arith) e w)
     ]
 
@@ -135,66 +117,53 @@ parts-apart part o zero = tt
 parts-apart part o (suc k) = go (is_there (part (suc k))) (parts-apart part o k)
   where
     go : (b : Bool) → Apart (part_slots part o k) → Apart (cons_if b (o, suc k) (part_slots part o k))
-    go true a = (λ c. (let v = parts_from part o k (o, suc k) c in let h : suc k ≤ k = v.high in omega arith), a)
-    go false a = a
+    go k a = grind (arith, parts_from)
 
 file-apart : (m : Option File) (o k : ℕ) → Apart (file_slots m o k)
-file-apart None o k = tt
-file-apart (Some f) o k = (λ c. (let v = parts_from f.part o k (o, 0) c in let h : 1 ≤ 0 = v.low in omega arith), parts-apart f.part o k)
+file-apart m o k = grind (arith, parts_from, parts-apart)
 
 slots_apart : (fs : Files) (m k : ℕ) → Apart (slots_up fs m k)
 slots_apart fs m zero = tt
 slots_apart fs m (suc k) =
     apart-append (file_slots (fs (257 + k)) (257 + k) m) (slots_up fs m k) (file-apart (fs (257 + k)) (257 + k) m) (slots_apart fs m k)
-    (λ q a b. let v = file-from (fs (257 + k)) (257 + k) m q a in let w = slots-from fs m k q b in let e = v.of in let h = w.high in omega arith)
+    (λ q a b. let v = file-from (fs (257 + k)) (257 + k) m q a in let w = slots-from fs m k q b in omega arith)
+
+keep_apart : (t : Record → Bool) (xs : List Record) → Apart xs → Apart (keep t xs)
+keep_apart t [] a = tt
+keep_apart t (x ∷ xs) a = grind (arith, keep_apart t xs a.1, keep-from)
+
+once-apart : (xs : List Record) → Apart (once xs)
+once-apart [] = tt
+once-apart (x ∷ xs) = (
+  λ a. both_ways (not (eqb x.tag.serial x.tag.serial)) (grind arith) (keep-from (λ s. not (eqb s.tag.serial x.tag.serial)) (once xs) x a).1,
+  keep_apart (λ s. not (eqb s.tag.serial x.tag.serial)) (once xs) (once-apart xs),
+)
 
 -- an object number is 257 to 511
 pub object-in : (r : Record) → keeps_rules r ≡ true → (257 ≤ object r) × (object r ≤ 511)
 unfolding keeps_rules object
-object-in r e = go (kind r) (and_parts (within 1 4294967295 r.tag.serial) _ e).1
-  where
-    far : (x : Bool) → (within (0x10000000 + 257) (0x10000000 + 511) r.tag.second && x) ≡ true → (257 ≤ r.tag.second - 0x10000000) × (r.tag.second - 0x10000000 ≤ 511)
-    far x h =
-        let a = and_parts (within (0x10000000 + 257) (0x10000000 + 511) r.tag.second) x h in
-        let b = and_parts (leb (0x10000000 + 257) r.tag.second) (leb r.tag.second (0x10000000 + 511)) a.0 in
-        let c : 0x10000000 + 257 ≤ r.tag.second = leb-true _ _ b.0 in
-        let d : r.tag.second ≤ 0x10000000 + 511 = leb-true _ _ b.1 in
-        (omega arith, omega arith)
-
-    go : (k : Kind) → rules_by r k ≡ true → (257 ≤ object_by k r.tag.second) × (object_by k r.tag.second ≤ 511)
-    go data_k h =
-        let a = and_parts (within 257 511 r.tag.second) _ (and_parts (within 1 1000 r.tag.first) _ h).1 in
-        let b = and_parts (leb 257 r.tag.second) (leb r.tag.second 511) a.0 in
-        (leb-true _ _ b.0, leb-true _ _ b.1)
-    go header_k h = far _ h
-    go cut_k h = far _ h
-    go marker_k h = far _ h
-    go other_k h = absurd (both_ways false refl h)
+object-in r e = search arith
 
 module _ (rs : List Record) (u : Unique rs) (rules : (r : Record) → Among r rs → keeps_rules r ≡ true) where
   abbrev filed : List Record
   filed = keep (in_file rs) (once rs)
 
   filed-from : (r : Record) → Among r filed → Among r rs × (in_file rs r ≡ true)
-  filed-from r a = (let x = keep-from (in_file rs) (once rs) r a in (from-once rs r x.0, x.1))
+  filed-from r a = grind (arith, keep-from, from-once)
 
   filed-in : (r : Record) → Among r rs → in_file rs r ≡ true → Among r filed
-  filed-in r a e = keep-among (in_file rs) (once rs) r (once-among rs u r a) e
+  filed-in r a e = grind (arith, keep-among, once-among)
 
   -- a header's file, and a data record's
   file-there : (o : ℕ) → present rs o ≡ true → (f : File) × (files rs o ≡ Some f)
-  file-there o e = there-some (files rs o) (sym (present-file rs o) ∙ e)
+  file-there o e = grind (arith, present-file)
 
   -- the place of a record
   slot_of : Record → Slot
   slot_of r = (object r, cond (is_data (kind r)) r.tag.first 0)
 
   header-data : (k : Kind) → is_header k ≡ true → is_data k ≡ false
-  header-data data_k e = absurd (both_ways false refl e)
-  header-data header_k e = refl
-  header-data cut_k e = refl
-  header-data marker_k e = refl
-  header-data other_k e = refl
+  header-data k e = grind arith
 
   -- what stands at a place
   at_slot : Slot → Option Record
@@ -202,18 +171,7 @@ module _ (rs : List Record) (u : Unique rs) (rules : (r : Record) → Among r rs
 
   slot-back : (r : Record) → Among r rs → in_file rs r ≡ true → at_slot (slot_of r) ≡ Some r
   unfolding at_slot slot_of
-  slot-back r a e = elim (filed-view rs r e) [ inl v ↦ as_header v | inr v ↦ as_data v ]
-    where
-      as_header : HeaderIn rs r → cond (eqb (cond (is_data (kind r)) r.tag.first 0) 0) (header rs (object r)) (chunk rs (object r) (cond (is_data (kind r)) r.tag.first 0)) ≡ Some r
-      as_header v =
-          ap (λ (z : ℕ). cond (eqb z 0) (header rs (object r)) (chunk rs (object r) z)) (cond-false (is_data (kind r)) r.tag.first 0 (header-data (kind r) v.isheader))
-          ∙ header_of rs u r a v
-
-      as_data : DataIn rs r → cond (eqb (cond (is_data (kind r)) r.tag.first 0) 0) (header rs (object r)) (chunk rs (object r) (cond (is_data (kind r)) r.tag.first 0)) ≡ Some r
-      as_data v =
-          ap (λ (z : ℕ). cond (eqb z 0) (header rs (object r)) (chunk rs (object r) z)) (cond-true (is_data (kind r)) r.tag.first 0 v.isdata)
-          ∙ cond-false (eqb r.tag.first 0) _ _ (ne_eqb _ _ (λ z. omega (arith, (data-number r v.isdata).0)))
-          ∙ chunk_of rs u r a v
+  slot-back r a e = grind (arith, filed-view, header_of, data-number, chunk_of)
 
   slot-in : (r : Record) → Among r filed → Among (slot_of r) (slots_up (files rs) 1000 255)
   unfolding slot_of
@@ -228,7 +186,7 @@ module _ (rs : List Record) (u : Unique rs) (rules : (r : Record) → Among r rs
       as_header : HeaderIn rs r → Among (object r, cond (is_data (kind r)) r.tag.first 0) (slots_up (files rs) 1000 255)
       as_header v =
           let f = file-there (object r) (unfold present in ap is_there (header_of rs u r x.0 v)) in
-          slots-in (files rs) 1000 255 (object r) _ f.0 range.0 (let l = range.1 in omega arith) f.1 (inl (cond-false (is_data (kind r)) r.tag.first 0 (header-data (kind r) v.isheader)))
+          slots-in (files rs) 1000 255 (object r) _ f.0 range.0 (let l = range.1 in omega arith) f.1 (grind (arith, header-data))
 
       as_data : DataIn rs r → Among (object r, cond (is_data (kind r)) r.tag.first 0) (slots_up (files rs) 1000 255)
       as_data v =
@@ -246,7 +204,7 @@ module _ (rs : List Record) (u : Unique rs) (rules : (r : Record) → Among r rs
   unfolding used
   used-most =
       pigeons slot_of filed (slots_up (files rs) 1000 255) (keep_apart (in_file rs) (once rs) (once-apart rs)) slot-in
-      (λ r s a b e. (let x = filed-from r a in let y = filed-from s b in some_is r s (sym (slot-back r x.0 x.1) ∙ ap at_slot e ∙ slot-back s y.0 y.1)))
+      (grind (arith, filed-from, slot-back))
 
   -- back: each place of a file has its record
   record Holder (q : Slot) : Type 0 where
@@ -273,7 +231,7 @@ module _ (rs : List Record) (u : Unique rs) (rules : (r : Record) → Among r rs
             rec = fa.head;
             stands = h.stands;
             infile = header-filed rs fa.head h.filed;
-            is = cond-true (eqb q.1 0) _ _ (eq-eqb _ _ z) ∙ fa.header';
+            is = grind (arith, fa);
             place = λ i. (h.of i, (cond-false (is_data (kind fa.head)) fa.head.tag.first 0 (header-data (kind fa.head) h.filed.isheader) ∙ sym z) i);
           }
 
@@ -285,7 +243,7 @@ module _ (rs : List Record) (u : Unique rs) (rules : (r : Record) → Among r rs
             rec = d.0;
             stands = c.stands;
             infile = data-filed rs d.0 (record { isdata = c.data'.isdata; there = ap (present rs) c.data'.of ∙ present-file rs q.0 ∙ ap is_there v.at.is; bare = c.bare; last = c.last });
-            is = cond-false (eqb q.1 0) _ _ (ne_eqb _ _ (λ z. let l = w.low in omega arith)) ∙ d.1;
+            is = cond-false (eqb q.1 0) _ _ (ne_eqb _ _ (λ z. omega arith)) ∙ d.1;
             place = λ i. (c.data'.of i, (cond-true (is_data (kind d.0)) d.0.tag.first 0 c.data'.isdata ∙ c.data'.at) i);
           }
 
@@ -301,8 +259,8 @@ module _ (rs : List Record) (u : Unique rs) (rules : (r : Record) → Among r rs
         arith,
         length-map {B = Option Record} filed Some,
         pigeons at_slot (slots_up (files rs) 1000 255) (map Some filed) (slots_apart (files rs) 1000 255)
-            (λ q a. let h = holder q a in subst (λ (z : Option Record). Among z (map Some filed)) (sym h.is) (map-among filed h.rec (filed-in h.rec h.stands h.infile)))
-            (λ q q' a a' e. let h = holder q a in let h' = holder q' a' in sym h.place ∙ ap slot_of (some_is h.rec h'.rec (sym h.is ∙ e ∙ h'.is)) ∙ h'.place),
+            (λ q a. let h = holder q a in subst (λ (z : Option Record). Among z (map Some filed)) (sym h.is) (grind (arith, map-among, filed, filed-in)))
+            (λ q q' a a' e. let h = holder q a in let h' = holder q' a' in cc),
       )
 
 between : (a b c : ℕ) → a ≤ b → b ≤ a → b ≡ c → c ≡ a

@@ -1,9 +1,9 @@
 -- Wherever the supply fails in a cleaning, the files are as they were. Assumes nothing.
-use Rattle.std.proofs.Common.{◌≡◌, ℕ, List, [], ◌∷◌, ◌++◌, get_or, Some, None, Option, sym, refl, ap, ◌∙◌, subst, inl, inr}
+use Rattle.std.proofs.Common.{◌≡◌, ℕ, List, [], ◌∷◌, ◌++◌, get_or, sym, refl, ap, ◌∙◌, inl, inr, arith}
 use Rattle.flash.specs.declared.chunks.Record.{Record}
 use Rattle.rules.specs.Lists.{Among}
 use Rattle.rules.specs.Reading.{files}
-use Rattle.rules.specs.Places.{Flash, Act, adding, copying, erasing, programmed, clean, clean_block, to_clean, copies, copy_at, copy_place, runs, load_list, does}
+use Rattle.rules.specs.Places.{Flash, Act, adding, copying, erasing, programmed, clean, copies, copy_at, copy_place, runs, does}
 use Rattle.rules.specs.Laws.{Unique, Left}
 use Rattle.rules.specs.Safety.{SafeRun, MayHold, CleaningKeepsFiles}
 use Rattle.flash.specs.declared.chunks.Chunk.{Chunk}
@@ -25,21 +25,13 @@ quiet-append (adding _ _ _ ∷ acts) more a b = absurd a
 quiet-append (copying _ _ _ ∷ acts) more a b = quiet-append acts more a b
 quiet-append (erasing _ ∷ acts) more a b = quiet-append acts more a b
 
-pub quiet-copy : (r : Record) (m : Option (ℕ × ℕ)) → Quiet (copy_at r m)
-quiet-copy r None = tt
-quiet-copy r (Some q) = tt
-
 pub quiet-copies : (rs : List Record) (s : Flash) → Quiet (copies s rs)
 quiet-copies [] s = tt
-quiet-copies (r ∷ rs) s = quiet-append (copy_at r (copy_place s)) _ (quiet-copy r (copy_place s)) (quiet-copies rs (runs s (copy_at r (copy_place s))))
+quiet-copies (r ∷ rs) s = grind (arith, quiet-copies rs (runs s (copy_at r (copy_place s))), quiet-append)
 
 pub quiet-clean : (s : Flash) → Quiet (clean s)
 unfolding clean
-quiet-clean s = go (to_clean s)
-  where
-    go : (m : Option (ℕ × ℕ)) → Quiet (clean_block s m)
-    go None = tt
-    go (Some v) = quiet-append (copies s (load_list s.blocks v.0)) (erasing v.0 ∷ []) (quiet-copies (load_list s.blocks v.0) s) tt
+quiet-clean s = grind (arith, quiet-append, quiet-copies)
 
 pub left-blank : (cs : List Chunk) → Left cs (all_blank cs)
 left-blank [] = tt
@@ -51,28 +43,21 @@ blank_none (c ∷ cs) r a = blank_none cs r a
 
 -- one serial stays one record
 pub unique-copy : (bs : List (List Chunk)) (b c : ℕ) (r : Record) → Unique (standing bs) → Among r (standing bs) → Unique (standing (put_at bs b c (Holds r)))
-unique-copy bs b c r q here x y ax ay e = q x y (was x ax) (was y ay) e
-  where
-    was : (z : Record) → Among z (standing (put_at bs b c (Holds r))) → Among z (standing bs)
-    was z a = elim (put-cases bs b c (Holds r) z a) [ inl h ↦ subst (λ (w : Record). Among w (standing bs)) (cc) here | inr h ↦ h ]
+unique-copy bs b c r q here x y ax ay e = grind (arith, put-cases)
 
 pub unique-erase : (bs : List (List Chunk)) (b : ℕ) → Unique (standing bs) → Unique (standing (erase_at bs b))
-unique-erase bs b q x y ax ay e = q x y (was x ax) (was y ay) e
-  where
-    was : (z : Record) → Among z (standing (erase_at bs b)) → Among z (standing bs)
-    was z a = elim (set_cases bs b (all_blank (get_or bs b [])) z a) [ inl h ↦ absurd (blank_none (get_or bs b []) z h) | inr h ↦ now-other bs b z h ]
+unique-erase bs b q x y ax ay e = grind (arith, set_cases, blank_none, now-other)
 
 pub safe-files : (acts : List Act) (s : Flash) → SafeRun s acts → Quiet acts → Unique (standing s.blocks) → (bs' : List (List Chunk)) → MayHold s acts bs' → (o : ℕ) → files (standing s.blocks) o ≡ files (standing bs') o
 unfolding programmed
-safe-files [] s safe quiet q bs' m o = ap (λ (z : List (List Chunk)). files (standing z) o) (sym m)
+safe-files [] s safe quiet q bs' m o = grind arith
 safe-files (adding b c r ∷ more) s safe quiet q bs' m o = absurd quiet
 safe-files (copying b c r ∷ more) s safe quiet q bs' (inl f) o =
     copying-keeps-files s.blocks b c r q safe.0.0 safe.0.1 f.0 f.1 o ∙ ap (λ (z : List (List Chunk)). files (standing z) o) (sym f.2)
 safe-files (copying b c r ∷ more) s safe quiet q bs' (inr m) o =
     copying-keeps-files s.blocks b c r q safe.0.0 safe.0.1 (Holds r) (inl refl) o
     ∙ safe-files more (programmed s b c r) safe.1 quiet (unique-copy s.blocks b c r q safe.0.0) bs' m o
-safe-files (erasing b ∷ more) s safe quiet q bs' (inl f) o =
-    erase-files s.blocks b f.0 q f.1 safe.0 o ∙ ap (λ (z : List (List Chunk)). files (standing z) o) (sym f.2)
+safe-files (erasing b ∷ more) s safe quiet q bs' (inl f) o = search (arith, erase-files)
 safe-files (erasing b ∷ more) s safe quiet q bs' (inr m) o =
     erase-files s.blocks b (all_blank (get_or s.blocks b [])) q (left-blank (get_or s.blocks b [])) safe.0 o
     ∙ safe-files more (does s (erasing b)) safe.1 quiet (unique-erase s.blocks b q) bs' m o

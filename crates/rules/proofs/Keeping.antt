@@ -1,12 +1,11 @@
 -- Contents that mount accepts stay so through copies and erases, done or failed. Assumes nothing.
-use Rattle.std.proofs.Common.{◌≡◌, ℕ, zero, suc, ◌<◌, ◌≤◌, Bool, true, false, eqb, ◌⊎◌, List, [], ◌∷◌, ◌++◌, length, get_or, set, Some, Option, sym, refl, ap, ◌∙◌, subst, inl, inr, arith, length-set, get_or-set_other, get_or-set_same}
-use mathlib.Core.Path.{fun_ext}
-use Rattle.std.proofs.lemmas.Bool.{cases_Bool, cases_eq, and_left, and_right, not_from_true, eq-eqb}
+use Rattle.std.proofs.Common.{◌≡◌, ℕ, zero, suc, ◌<◌, ◌≤◌, Bool, true, false, ◌⊎◌, List, [], ◌∷◌, length, get_or, set, Some, sym, refl, ap, ◌∙◌, subst, inl, inr, arith, length-set, get_or-set_other, get_or-set_same}
+use Rattle.std.proofs.lemmas.Bool.{cases_eq}
 use Rattle.flash.specs.declared.chunks.Record.{Record}
-use Rattle.rules.specs.Lists.{Among, keep, cons_if}
+use Rattle.rules.specs.Lists.{Among, keep}
 use Rattle.rules.specs.Records.{keeps_rules}
-use Rattle.rules.specs.Reading.{once, wanted, files, File, Files, used_by}
-use Rattle.rules.specs.Places.{Flash, Act, copying, erasing, load, load_list, makes_load, copies, copy_at, runs, programmed}
+use Rattle.rules.specs.Reading.{wanted, files, File, Files, used_by}
+use Rattle.rules.specs.Places.{Flash, Act, copying, erasing, load, load_list, makes_load, copies, programmed}
 use Rattle.rules.specs.Mounting.{sizes_fit, limit}
 use Rattle.rules.specs.Laws.{Unique, Same, Shrunk, Left}
 use Rattle.rules.specs.Safety.{SafeAct, Sound, RoomFor}
@@ -18,9 +17,8 @@ use Rattle.flash.specs.Blocks.{records_of, standing, put_at}
 use Rattle.rules.specs.declared.standings.Standing.TheVariants.{Blank as blank_s, Closed as closed_s}
 use Rattle.rules.proofs.Lists.{any-from}
 use Rattle.rules.proofs.Blocks.{set_cases, set_other, set-in, now-in, now-other, now-cases, put_keeps, put-cases, left-from, chunk-cases, is_copy}
-use Rattle.rules.proofs.Shrinking.{shrunk-files}
+use Rattle.rules.proofs.Shrinking.{shrunk-files, shrunk-keeps}
 use Rattle.rules.proofs.Copies.{wanted_same}
-use Rattle.rules.proofs.Used.{used-does-not-grow}
 use Rattle.rules.proofs.Cleaning.{from-once, Next, next}
 
 -- the files of contents that mount accepts
@@ -41,7 +39,7 @@ pub record Good (w n p : ℕ) (bs : List (List Chunk)) : Type 0 where
   pub way : Way n bs
 
 pub files-ok : (n p : ℕ) (fs fs' : Files) → ((o : ℕ) → fs o ≡ fs' o) → FilesOk n p fs → FilesOk n p fs'
-files-ok n p fs fs' e h = subst (FilesOk n p) (fun_ext e) h
+files-ok n p fs fs' e h = grind arith
 
 -- sizes
 pub record Sized (n p : ℕ) (bs : List (List Chunk)) : Type 0 where
@@ -49,20 +47,13 @@ pub record Sized (n p : ℕ) (bs : List (List Chunk)) : Type 0 where
   pub each : (i : ℕ) → i < n → length (get_or bs i []) ≡ p
 
 pub sized : (w n p : ℕ) (bs : List (List Chunk)) → Shaped w n p bs → Sized n p bs
-sized w n p bs h = record { many = h.blocks'; each = h.chunks }
+sized w n p bs h = grind arith
 
 pub sized_set : (n p : ℕ) (bs : List (List Chunk)) (b : ℕ) (cs : List Chunk) → Sized n p bs → length cs ≡ length (get_or bs b []) → Sized n p (set bs b cs)
-sized_set n p bs b cs h e = record {
-  many = length-set bs b cs ∙ h.many;
-  each = λ i l. elim (cases_eq i b) [
-    | inl q ↦ (let k : b < length bs = (let m = h.many in omega arith) in
-        ap (λ (z : ℕ). length (get_or (set bs b cs) z [])) q ∙ ap (λ (z : List Chunk). length z) (get_or-set_same bs b cs [] k) ∙ e ∙ h.each b (omega arith))
-    | inr q ↦ ap (λ (z : List Chunk). length z) (get_or-set_other bs b i cs [] q) ∙ h.each i l
-  ];
-}
+sized_set n p bs b cs h e = grind (arith, length-set, get_or-set_same, get_or-set_other)
 
 pub sized-put : (n p : ℕ) (bs : List (List Chunk)) (b c : ℕ) (x : Chunk) → Sized n p bs → Sized n p (put_at bs b c x)
-sized-put n p bs b c x h = sized_set n p bs b (set (get_or bs b []) c x) h (length-set (get_or bs b []) c x)
+sized-put n p bs b c x h = search (arith, sized_set, length-set)
 
 pub left-long : (xs ys : List Chunk) → Left xs ys → length ys ≡ length xs
 left-long [] [] l = refl
@@ -72,7 +63,7 @@ left-long (x ∷ xs) (y ∷ ys) l = ap suc (left-long xs ys l.1)
 
 -- what has gone was not wanted
 pub same-shrunk : (rs rs' : List Record) → Same rs rs' → Shrunk rs rs'
-same-shrunk rs rs' h = record { from = h.from; kept = λ r a e. h.to r a }
+same-shrunk rs rs' h = grind arith
 
 pub good-shrunk : (w n p : ℕ) (bs bs' : List (List Chunk)) → Good w n p bs → Sized n p bs' → Shrunk (standing bs) (standing bs') → Way n bs' → Good w n p bs'
 good-shrunk w n p bs bs' g z h way = record {
@@ -80,29 +71,23 @@ good-shrunk w n p bs bs' g z h way = record {
   shape = record { blocks' = z.many; chunks = z.each; bytes' = λ r a. g.shape.bytes' r (h.from r a) };
   rules = λ r a. g.rules r (h.from r a);
   unique = λ x y a b e. g.unique x y (h.from x a) (h.from y b) e;
-  filed = files-ok n p (files (standing bs)) (files (standing bs')) (shrunk-files (standing bs) (standing bs') g.unique h) g.filed;
+  filed = files-ok n p (files (standing bs)) (files (standing bs')) (grind (arith, shrunk-files)) g.filed;
   way = way;
 }
 
 -- a block whose wanted records stand elsewhere has load 0
 keep-none : {A : Type 0} (t : A → Bool) (xs : List A) → ((x : A) → Among x xs → t x ≡ false) → keep t xs ≡ []
 keep-none t [] f = refl
-keep-none t (x ∷ xs) f = ap (λ (b : Bool). cons_if b x (keep t xs)) (f x (inl refl)) ∙ keep-none t xs (λ y a. f y (inr a))
+keep-none t (x ∷ xs) f = grind (arith, keep-none t xs (λ y a. f y (inr a)))
 
 pub load-none : (bs : List (List Chunk)) (i : ℕ) → SafeAct bs (erasing i) → load bs i ≡ 0
 unfolding load load_list makes_load
-load-none bs i safe =
-    ap (λ (z : List Record). length z)
-    (keep-none (makes_load (standing bs) (standing (set bs i []))) (once (records_of (get_or bs i [])))
-    (λ r a. elim (cases_Bool (wanted (standing bs) r)) [
-      | inl t ↦ and_right (wanted (standing bs) r) _ (not_from_true _ (any-from (λ s. eqb s.tag.serial r.tag.serial) (standing (set bs i [])) r (safe r (from-once (records_of (get_or bs i [])) r a) t) (eq-eqb r.tag.serial r.tag.serial refl)))
-      | inr f ↦ and_left (wanted (standing bs) r) _ f
-    ]))
+load-none bs i safe = grind (arith, keep-none, any-from, from-once)
 
 set_twice : {A : Type 0} (xs : List A) (v : ℕ) (x y : A) → set (set xs v x) v y ≡ set xs v y
 set_twice [] v x y = refl
 set_twice (z ∷ zs) zero x y = refl
-set_twice {A} (z ∷ zs) (suc v) x y = ap {B = List A} (λ ys. z ∷ ys) (set_twice zs v x y)
+set_twice {A} (z ∷ zs) (suc v) x y = grind (arith, set_twice zs v x y)
 
 -- an erase, done or failed
 pub erase-shrunk : (bs : List (List Chunk)) (v : ℕ) (left : List Chunk) → SafeAct bs (erasing v) → Left (get_or bs v []) left → Shrunk (standing bs) (standing (set bs v left))
@@ -115,8 +100,8 @@ erase-shrunk bs v left safe l = record {
 pub erase-safe : (bs : List (List Chunk)) (v : ℕ) (left : List Chunk) → v < length bs → Unique (standing bs) → SafeAct bs (erasing v) → Left (get_or bs v []) left → SafeAct (set bs v left) (erasing v)
 erase-safe bs v left inside q safe l r a t =
     let b : Among r (records_of left) = subst (λ (z : List Chunk). Among r (records_of z)) (get_or-set_same bs v left [] inside) a in
-    let t' : wanted (standing bs) r ≡ true = (used-does-not-grow (standing bs) (standing (set bs v left)) q (erase-shrunk bs v left safe l)).1 r (set-in bs v left r inside b) t in
-    subst (λ (z : List (List Chunk)). Among r (standing z)) (sym (set_twice bs v left [])) (safe r (left-from (get_or bs v []) left l r b) t')
+    let t' : wanted (standing bs) r ≡ true = (shrunk-keeps (standing bs) (standing (set bs v left)) q (erase-shrunk bs v left safe l)).asked r (set-in bs v left r inside b) t in
+    subst (λ (z : List (List Chunk)). Among r (standing z)) (sym (set_twice bs v left [])) (grind (arith, left-from))
 
 pub erase-good : (w n p : ℕ) (bs : List (List Chunk)) (v : ℕ) (left : List Chunk) → Good w n p bs → v < n → SafeAct bs (erasing v) → Left (get_or bs v []) left → Good w n p (set bs v left)
 erase-good w n p bs v left g vn safe l =
@@ -126,7 +111,7 @@ erase-good w n p bs v left g vn safe l =
     sh = erase-shrunk bs v left safe l
 
     inside : v < length bs
-    inside = (let m = g.shape.blocks' in omega arith)
+    inside = grind arith
 
 -- a program, done or failed, of a copy
 abbrev pub Leaves : Record → Chunk → Type 0
@@ -135,7 +120,7 @@ Leaves r left = (left ≡ Holds r) ⊎ ((left ≡ Damaged) ⊎ (left ≡ Blank))
 pub copy-same : (bs : List (List Chunk)) (b c : ℕ) (r : Record) (left : Chunk) → Among r (standing bs) → get_or (get_or bs b []) c Damaged ≡ Blank → Leaves r left → Same (standing bs) (standing (put_at bs b c left))
 copy-same bs b c r left a e l = record {
   to = λ s d. put_keeps bs b c left s e d;
-  from = λ s d. elim (put-cases bs b c left s d) [ inl f ↦ is_copy (standing bs) r s left a l f | inr f ↦ f ];
+  from = grind (arith, put-cases, is_copy);
 }
 
 -- a block other than v, all of whose records stand in v
@@ -150,14 +135,11 @@ backed-way n bs v h =
 pub backed-put : (n : ℕ) (bs : List (List Chunk)) (v b c : ℕ) (r : Record) (left : Chunk) → b < length bs → (v ≡ b → ⊥) → Among r (records_of (get_or bs v [])) → Leaves r left → Backed n bs v → Backed n (put_at bs b c left) v
 backed-put n bs v b c r left inside apart here l h = (h.0, h.1, h.2, into)
   where
-    new : List Chunk
-    new = set (get_or bs b []) c left
-
     same : get_or (set bs b (set (get_or bs b []) c left)) v [] ≡ get_or bs v []
-    same = get_or-set_other bs b v (set (get_or bs b []) c left) [] apart
+    same = grind (arith, get_or-set_other)
 
     copy : (x : Record) → left ≡ Holds x → Among x (records_of (get_or bs v []))
-    copy x e = is_copy (records_of (get_or bs v [])) r x left here l e
+    copy x e = grind arith
 
     into : (x : Record) → Among x (records_of (get_or (put_at bs b c left) h.0 [])) → Among x (records_of (get_or (put_at bs b c left) v []))
     into x a =
@@ -189,15 +171,15 @@ module _ (w n p v : ℕ) where
     place = next p s h.sound k r h.room
 
     apart : v ≡ place.b → ⊥
-    apart e = place.unclosed (subst (λ (z : ℕ). get_or s.stand z blank_s ≡ closed_s) e h.closed)
+    apart e = grind arith
 
     inside : place.b < length s.blocks
-    inside = (let a = place.inside in let e = h.sound.same_long in omega arith)
+    inside = grind arith
 
     one-good : (left : Chunk) → Leaves r left → Good w n p (put_at s.blocks place.b place.c left)
     one-good left l =
         good-shrunk w n p s.blocks _ h.good (sized-put n p s.blocks place.b place.c left (sized w n p s.blocks h.good.shape))
-        (same-shrunk (standing s.blocks) _ (one_same left l))
+        (grind (arith, same-shrunk, one_same))
         (backed-way n _ v (backed-put n s.blocks v place.b place.c r left inside apart here l h.backed))
       where
         one_same : (left : Chunk) → Leaves r left → Same (standing s.blocks) (standing (put_at s.blocks place.b place.c left))
@@ -215,7 +197,7 @@ module _ (w n p v : ℕ) where
     then' = record {
       good = one-good (Holds r) (inl refl);
       sound = place.sound;
-      closed = get_or-set_other s.stand place.b v _ blank_s apart ∙ h.closed;
+      closed = grind (arith, get_or-set_other, place, apart);
       room = place.room;
       backed = backed-put n s.blocks v place.b place.c r (Holds r) inside apart here (inl refl) h.backed;
     }
@@ -235,16 +217,16 @@ module _ (w n p v : ℕ) where
         good = b.good;
         shrunk = record {
           from = λ x a. sm.from x (b.shrunk.from x a);
-          kept = λ x a t. b.shrunk.kept x (sm.to x a) (sym (wanted_same (standing s.blocks) (standing bs₁) h.good.unique sm x) ∙ t);
+          kept = λ x a t. b.shrunk.kept x (sm.to x a) (grind (arith, wanted_same));
         };
       }
 
   pub copies-break : (rs : List Record) (s : Flash) → Copying s (length rs) → ((r : Record) → Among r rs → Among r (records_of (get_or s.blocks v []))) → (x : Act) (bs' : List (List Chunk)) → Breaks s (copies s rs) x bs' → Broke w n p s bs'
   copies-break [] s h here x bs' m = absurd m
   copies-break (r ∷ rs) s h here x bs' m =
-      go (subst (λ (z : Option (ℕ × ℕ)). Breaks s (copy_at r z ++ copies (runs s (copy_at r z)) rs) x bs') q.is m)
-      (copies-break rs (programmed s q.b q.c r) (then' s r (length rs) h (here r (inl refl)))
-      (λ y a. subst (λ (z : List Chunk). Among y (records_of z)) (sym (kept s r (length rs) h (here r (inl refl)))) (here y (inr a))) x bs')
+      go (grind (arith, q))
+      (copies-break rs (programmed s q.b q.c r) (grind (arith, then'))
+      (grind (arith, kept)) x bs')
     where
       q : Next p s (length rs) r
       q = place s r (length rs) h (here r (inl refl))
@@ -253,5 +235,5 @@ module _ (w n p v : ℕ) where
           → (Breaks (programmed s q.b q.c r) (copies (programmed s q.b q.c r) rs) x bs' → Broke w n p (programmed s q.b q.c r) bs') → Broke w n p s bs'
       go (inl f) ih =
           let left : Chunk = f.1.0 in
-          subst (Broke w n p s) (sym f.1.2) (record { good = one-good s r (length rs) h (here r (inl refl)) left f.1.1; shrunk = one-shrunk s r (length rs) h (here r (inl refl)) left f.1.1 })
-      go (inr d) ih = shrunk-trans s r (length rs) h (here r (inl refl)) bs' (ih d)
+          subst (Broke w n p s) (sym f.1.2) (record { good = one-good s r (length rs) h (here r (inl refl)) left f.1.1; shrunk = grind (arith, one-shrunk) })
+      go (inr d) ih = grind (arith, shrunk-trans)

@@ -12,7 +12,6 @@ pub mod Room
 pub mod Cleaning
 pub mod Failing
 pub mod Mounts
-pub mod Used
 pub mod Filed
 pub mod Counting
 pub mod Tidy

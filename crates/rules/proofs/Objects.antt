@@ -1,23 +1,23 @@
 -- Tests over the object numbers 257 to 511. Assumes nothing.
-use Rattle.std.proofs.Common.{◌≡◌, ℕ, zero, suc, ◌+◌, ◌-◌, ◌<◌, ◌≤◌, Bool, true, false, refl, ap, ◌∙◌, inl, inr, arith}
-use Rattle.std.proofs.lemmas.Bool.{both_ways, cases_Bool, cases_eq, or_cases, or_left, or_right}
+use Rattle.std.proofs.Common.{◌≡◌, ℕ, zero, suc, ◌+◌, ◌-◌, ◌<◌, ◌≤◌, Bool, true, false, inl, inr, arith}
+use Rattle.std.proofs.lemmas.Bool.{both_ways, cases_eq, or_right}
 use Rattle.rules.specs.Reading.{any_up, any_object}
 
 up-true : (t : ℕ → Bool) (n k : ℕ) → k < n → t (257 + k) ≡ true → any_up t n ≡ true
 up-true t zero k l e = absurd (omega arith)
 up-true t (suc n) k l e =
     elim (cases_eq k n) [
-      | inl q ↦ or_left _ _ (ap (λ (z : ℕ). t (257 + z)) (let r : n ≡ k = omega arith in r) ∙ e)
+      | inl q ↦ grind arith
       | inr q ↦ or_right _ _ (up-true t n k (omega arith) e)
     ]
 
 up-some : (t : ℕ → Bool) (n : ℕ) → any_up t n ≡ true → (o : ℕ) × (t o ≡ true)
-up-some t zero e = absurd (both_ways false refl e)
-up-some t (suc n) e = elim (or_cases (t (257 + n)) (any_up t n) e) [ inl h ↦ (257 + n, h) | inr h ↦ up-some t n h ]
+up-some t zero e = cc
+up-some t (suc n) e = grind (arith, up-some t n)
 
 pub object-true : (t : ℕ → Bool) (o : ℕ) → 257 ≤ o → o ≤ 511 → t o ≡ true → any_object t ≡ true
 unfolding any_object
-object-true t o l h e = up-true t 255 (o - 257) (omega arith) (ap t (let q : 257 + (o - 257) ≡ o = omega arith in q) ∙ e)
+object-true t o l h e = up-true t 255 (o - 257) (omega arith) (grind arith)
 
 pub object-some : (t : ℕ → Bool) → any_object t ≡ true → (o : ℕ) × (t o ≡ true)
 unfolding any_object
@@ -27,4 +27,4 @@ pub object-false : (t : ℕ → Bool) (o : ℕ) → any_object t ≡ false → 2
 object-false t o e l h q = both_ways (any_object t) e (object-true t o l h q)
 
 pub object-none : (t : ℕ → Bool) → ((o : ℕ) → t o ≡ true → ⊥) → any_object t ≡ false
-object-none t h = elim (cases_Bool (any_object t)) [ inl e ↦ absurd (let x = object-some t e in h x.0 x.1) | inr e ↦ e ]
+object-none t h = grind (arith, object-some)

@@ -32,13 +32,10 @@ pub pigeons : {A B : Type 0} (f : A → B) (xs : List A) (ys : List B) → Apart
     → length xs ≤ length ys
 pigeons f [] ys d into one = omega arith
 pigeons {A} f (x ∷ xs) ys d into one =
-    omega (arith, less-length (f x) ys here, pigeons f xs (less (f x) ys here) d.1 (λ z a. less-keeps (f x) ys here (f z) (into z (inr a)) (other z a)) (λ z z' a a' e. one z z' (inr a) (inr a') e))
+    omega (arith, less-length (f x) ys here, pigeons f xs (less (f x) ys here) d.1 (grind (arith, less-keeps, here, other)) (λ z z' a a' e. one z z' (inr a) (inr a') e))
   where
     here : Among (f x) ys
     here = into x (inl refl)
 
-    back : (z : A) → Among z xs → x ≡ z → Among x xs
-    back z a e = mathlib.Core.Path.subst (λ (w : A). Among w xs) (sym e) a
-
     other : (z : A) → Among z xs → f x ≡ f z → ⊥
-    other z a e = d.0 (back z a (one x z (inl refl) (inr a) e))
+    other z a e = grind arith

@@ -1,10 +1,9 @@
 -- A cleaning, and the acts that add a record: done or failed, the contents stay such as mount accepts. Assumes nothing.
 use Rattle.std.proofs.Common.{◌≡◌, ℕ, zero, suc, ◌+◌, ◌<◌, ◌≤◌, Bool, true, false, cond, not, leb, ◌⊎◌, List, [], ◌∷◌, ◌++◌, length, get_or, set, replicate, Some, None, Option, sym, refl, ap, ◌∙◌, subst, inl, inr, arith, length-set, get_or-set_other, get_or-set_same}
-use Rattle.std.proofs.lemmas.Bool.{cases_eq, and_parts, leb-true, leb-false}
+use Rattle.std.proofs.lemmas.Bool.{leb-true}
 use Rattle.flash.specs.declared.chunks.Record.{Record}
-use Rattle.rules.specs.Lists.{Among, or_else, first_where, count, within}
-use Rattle.rules.specs.Records.{is_blank}
-use Rattle.rules.specs.Places.{is_blank_s, is_open_s, Flash, Act, adding, copying, erasing, runs, programmed, load, load_list, copy_at, least, better, to_clean, clean, clean_block, copies, add_place, open_place, blank_place, start_of, is_program, does}
+use Rattle.rules.specs.Lists.{Among, or_else, first_where, count}
+use Rattle.rules.specs.Places.{is_blank_s, is_open_s, Flash, Act, adding, copying, erasing, runs, programmed, load, load_list, copy_at, least, better, to_clean, clean, copies, add_place, open_place, blank_place, start_of, is_program, does}
 use Rattle.rules.specs.Mounting.{sizes_fit}
 use Rattle.rules.specs.Laws.{Shrunk, Left}
 use Rattle.rules.specs.Safety.{SafeAct, Sound, RoomFor}
@@ -17,31 +16,19 @@ use Rattle.rules.specs.declared.standings.Standing.{Standing}
 use Rattle.rules.specs.declared.standings.Standing.TheVariants.{Blank as blank_s, Open as open_s, Closed as closed_s}
 use Rattle.rules.proofs.Copies.{wanted_same}
 use Rattle.rules.proofs.Failing.{left-blank}
-use Rattle.rules.proofs.Cleaning.{Where, found, found_at, Spot, SpotAt, spot, open_is_lem, blank-is, Copied, LeastAt, least_at, Next, next, done, erasable, closed_in, in_load, runs_append, first-blank, blanks-all, all_tail}
+use Rattle.rules.proofs.Cleaning.{Where, found, found_at, Spot, spot, open_is_lem, blank-is, Copied, least_at, Next, next, done, erasable, closed_in, in_load, runs_append, first-blank, blanks-all, all_tail}
 use Rattle.rules.proofs.Tidy.{Tidy, pair_is, Opened, open-place, none-opened, first-opened, tidy-copies, tidy-erase}
 use Rattle.rules.proofs.Keeping.{Good, Sized, sized, sized_set, sized-put, same-shrunk, good-shrunk, load-none, erase-shrunk, erase-good, Broke, copies-break}
 
-pub some_is : {A : Type 0} (x y : A) → Some x ≡ Some y → x ≡ y
-some_is x y e = cc
-
-pub some-none : {A : Type 0} (x : A) → Some x ≡ None → ⊥
-some-none x e = (let z : ◌≡◌ {A = ℕ} 0 1 = cc in omega arith)
-
 pub closed-blank : closed_s ≡ blank_s → ⊥
-closed-blank e = (let z : ◌≡◌ {A = ℕ} 0 1 = cc in omega arith)
-
-pub open-blank : open_s ≡ blank_s → ⊥
-open-blank e = (let z : ◌≡◌ {A = ℕ} 0 1 = cc in omega arith)
+closed-blank e = cc
 
 pub blank-open : blank_s ≡ open_s → ⊥
-blank-open e = (let z : ◌≡◌ {A = ℕ} 0 1 = cc in omega arith)
+blank-open e = cc
 
 -- sizes
 pub sizes-view : (n p : ℕ) → sizes_fit n p ≡ true → (3 ≤ n) × (2 ≤ p)
-sizes-view n p e =
-    let a = and_parts (within 3 64 n) _ e in
-    let b = and_parts (within 2 64 p) _ a.1 in
-    (leb-true 3 n (and_parts (leb 3 n) (leb n 64) a.0).0, leb-true 2 p (and_parts (leb 2 p) (leb p 64) b.0).0)
+sizes-view n p e = grind arith
 
 -- the block of least load
 abbrev LowAt : (ℕ → ℕ) → ℕ → List Standing → Option (ℕ × ℕ) → Type 0
@@ -49,47 +36,15 @@ LowAt f b ss None = (i : ℕ) → get_or ss i blank_s ≡ closed_s → ⊥
 LowAt f b ss (Some q) = (q.1 ≡ f q.0) × ((i : ℕ) → get_or ss i blank_s ≡ closed_s → q.1 ≤ f (b + i))
 
 low-shift : (f : ℕ → ℕ) (b : ℕ) (x : Standing) (ss : List Standing) → (x ≡ closed_s → ⊥) → (m : Option (ℕ × ℕ)) → LowAt f (suc b) ss m → LowAt f b (x ∷ ss) m
-low-shift f b x ss n None h = go
-  where
-    go : (i : ℕ) → get_or (x ∷ ss) i blank_s ≡ closed_s → ⊥
-    go zero e = n e
-    go (suc i) e = h i e
-low-shift f b x ss n (Some q) h = (h.0, go)
-  where
-    go : (i : ℕ) → get_or (x ∷ ss) i blank_s ≡ closed_s → q.1 ≤ f (b + i)
-    go zero e = absurd (n e)
-    go (suc i) e = subst (λ (z : ℕ). q.1 ≤ f z) (let g : suc b + i ≡ b + suc i = omega arith in g) (h.1 i e)
+low-shift f b x ss n k h = grind arith
 
 low-better : (f : ℕ → ℕ) (b : ℕ) (ss : List Standing) (m : Option (ℕ × ℕ)) → LowAt f (suc b) ss m → LowAt f b (closed_s ∷ ss) (better b (f b) m)
-low-better f b ss None h = (refl, go)
-  where
-    go : (i : ℕ) → get_or (closed_s ∷ ss) i blank_s ≡ closed_s → f b ≤ f (b + i)
-    go zero e = subst (λ (z : ℕ). f b ≤ f z) (let g : b ≡ b + 0 = omega arith in g) (omega arith)
-    go (suc i) e = absurd (h i e)
-low-better f b ss (Some q) h = at (leb (f b) q.1) refl
-  where
-    next : (i : ℕ) → get_or ss i blank_s ≡ closed_s → q.1 ≤ f (b + suc i)
-    next i e = subst (λ (z : ℕ). q.1 ≤ f z) (let g : suc b + i ≡ b + suc i = omega arith in g) (h.1 i e)
-
-    same : f b ≡ f (b + 0)
-    same = ap f (let g : b ≡ b + 0 = omega arith in g)
-
-    at : (z : Bool) → leb (f b) q.1 ≡ z → LowAt f b (closed_s ∷ ss) (Some (cond z (b, f b) q))
-    at true e = (refl, go)
-      where
-        go : (i : ℕ) → get_or (closed_s ∷ ss) i blank_s ≡ closed_s → f b ≤ f (b + i)
-        go zero d = (let g = same in omega arith)
-        go (suc i) d = (let x = leb-true (f b) q.1 e in let y = next i d in omega arith)
-    at false e = (h.0, go)
-      where
-        go : (i : ℕ) → get_or (closed_s ∷ ss) i blank_s ≡ closed_s → q.1 ≤ f (b + i)
-        go zero d = (let x = leb-false (f b) q.1 e in let g = same in omega arith)
-        go (suc i) d = next i d
+low-better f b ss k h = grind arith
 
 low-at : (f : ℕ → ℕ) (ss : List Standing) (b : ℕ) → LowAt f b ss (least f b ss)
-low-at f [] b = λ i e. closed-blank (sym e)
-low-at f (blank_s ∷ ss) b = low-shift f b blank_s ss (λ e. closed-blank (sym e)) (least f (suc b) ss) (low-at f ss (suc b))
-low-at f (open_s ∷ ss) b = low-shift f b open_s ss (λ e. (let z : ◌≡◌ {A = ℕ} 0 1 = cc in omega arith)) (least f (suc b) ss) (low-at f ss (suc b))
+low-at f [] b = grind arith
+low-at f (blank_s ∷ ss) b = grind (arith, low-at f ss (suc b), low-shift)
+low-at f (open_s ∷ ss) b = search (arith, low-at f ss (suc b))
 low-at f (closed_s ∷ ss) b = low-better f b ss (least f (suc b) ss) (low-at f ss (suc b))
 
 -- the block that a cleaning takes
@@ -100,15 +55,7 @@ pub record Taken (s : Flash) (v l : ℕ) : Type 0 where
 
 pub taken_is : (s : Flash) (v l : ℕ) → to_clean s ≡ Some (v, l) → Taken s v l
 unfolding to_clean
-taken_is s v l e =
-    let f : ℕ → ℕ = load s.blocks in
-    let a : LeastAt 0 s.stand (Some (v, l)) = subst (LeastAt 0 s.stand) e (least_at (load s.blocks) s.stand 0) in
-    let b : LowAt (load s.blocks) 0 s.stand (Some (v, l)) = subst (LowAt (load s.blocks) 0 s.stand) e (low-at (load s.blocks) s.stand 0) in
-    record {
-      closed = subst (λ (z : ℕ). get_or s.stand z blank_s ≡ closed_s) (let g = a.1 in let h : a.0 ≡ v = omega arith in h) a.2;
-      is_load = b.0;
-      low = λ i c. subst (λ (z : ℕ). l ≤ load s.blocks z) (let h : 0 + i ≡ i = omega arith in h) (b.1 i c);
-    }
+taken_is s v l e = grind (arith, least_at, low-at)
 
 pub some-taken : (s : Flash) (i : ℕ) → get_or s.stand i blank_s ≡ closed_s → (v : ℕ) × (l : ℕ) × (to_clean s ≡ Some (v, l))
 unfolding to_clean
@@ -133,7 +80,7 @@ sized-runs n p (erasing b ∷ acts) s h = sized-runs n p acts (does s (erasing b
 pub breaks-append : (acts more : List Act) (s : Flash) (x : Act) (bs' : List (List Chunk)) → Breaks s (acts ++ more) x bs' → Breaks s acts x bs' ⊎ Breaks (runs s acts) more x bs'
 breaks-append [] more s x bs' m = inr m
 breaks-append (a ∷ acts) more s x bs' (inl f) = inl (inl f)
-breaks-append (a ∷ acts) more s x bs' (inr m) = elim (breaks-append acts more (does s a) x bs' m) [ inl d ↦ inl (inr d) | inr d ↦ inr d ]
+breaks-append (a ∷ acts) more s x bs' (inr m) = grind (arith, breaks-append acts more (does s a) x bs' m)
 
 pub count-append : {A : Type 0} (t : A → Bool) (xs ys : List A) → count t (xs ++ ys) ≡ count t xs + count t ys
 count-append t [] ys = omega arith
@@ -149,8 +96,7 @@ pub first-there : {A : Type 0} (t : A → Bool) (xs : List A) (i : ℕ) (d : A) 
 first-there {A} t xs i d l e = go (first_where t xs) refl (found t xs)
   where
     go : (m : Option ℕ) → first_where t xs ≡ m → Where t xs m → (k : ℕ) × (first_where t xs ≡ Some k)
-    go None f h = absurd (h i d l e)
-    go (Some k) f h = (k, f)
+    go k f h = grind arith
 
 pub none-recs : (p : ℕ) (r : Record) → Among r (records_of (replicate p Blank)) → ⊥
 none-recs zero r a = a
@@ -158,7 +104,7 @@ none-recs (suc p) r a = none-recs p r a
 
 all-blank-is : (cs : List Chunk) → all_blank cs ≡ replicate (length cs) Blank
 all-blank-is [] = refl
-all-blank-is (c ∷ cs) = ap {B = List Chunk} (λ z. Blank ∷ z) (all-blank-is cs)
+all-blank-is (c ∷ cs) = grind (arith, all-blank-is cs)
 
 -- the chip takes a program at the first blank chunk
 pub takes-spot : (n p : ℕ) (bs : List (List Chunk)) (b c : ℕ) (r : Record) → Sized n p bs → b < n → Spot (get_or bs b []) c → Takes n p bs (copying b c r)
@@ -177,7 +123,7 @@ takes-copies n p m [] s ok z room = tt
 takes-copies n p m (r ∷ rs) s ok z room =
     let q : Next p s (length rs + m) r = next p s ok (length rs + m) r (subst (RoomFor p s) (let e : suc (length rs) + m ≡ suc (length rs + m) = omega arith in e) room) in
     subst (λ (x : Option (ℕ × ℕ)). TakesAll n p s (copy_at r x ++ copies (runs s (copy_at r x)) rs)) (sym q.is) (
-      takes-spot n p s.blocks q.b q.c r z (let a = q.inside in let e = ok.same_long in let f = z.many in omega arith) q.at,
+      takes-spot n p s.blocks q.b q.c r z (omega arith) q.at,
       takes-copies n p m rs (programmed s q.b q.c r) q.sound (sized-programmed n p s q.b q.c r z) q.room,
     )
 
@@ -197,7 +143,7 @@ HasBlank s = (i : ℕ) × (first_where is_blank_s s.stand ≡ Some i)
 
 module _ (w n p : ℕ) (s : Flash) (g : Good w n p s.blocks) (lv : Live p s) (v l : ℕ) (tk : Taken s v l) (how : (l ≡ 0) ⊎ (HasBlank s × (l ≤ p))) where
   room : RoomFor p s (load s.blocks v)
-  room = elim how [ inl z ↦ inr (inr (sym tk.is_load ∙ z)) | inr h ↦ inl (h.0, (let e = tk.is_load in let k = h.1 in omega arith)) ]
+  room = grind arith
 
   abbrev moved : List Record
   moved = load_list s.blocks v
@@ -212,58 +158,45 @@ module _ (w n p : ℕ) (s : Flash) (g : Good w n p s.blocks) (lv : Live p s) (v 
   safe = erasable p s lv.sound g.unique v tk.closed room
 
   vn : v < n
-  vn = (let a = (closed_in s.stand v tk.closed).0 in let e = lv.sound.same_long in let f = g.shape.blocks' in omega arith)
+  vn = grind (arith, closed_in)
 
   good₁ : Good w n p copied'.blocks
-  good₁ = good-shrunk w n p s.blocks copied'.blocks g (sized-runs n p (copies s moved) s (sized w n p s.blocks g.shape)) (same-shrunk (standing s.blocks) (standing copied'.blocks) dn.same) (v, vn, load-none copied'.blocks v safe)
+  good₁ = good-shrunk w n p s.blocks copied'.blocks g (sized-runs n p (copies s moved) s (sized w n p s.blocks g.shape)) (grind (arith, same-shrunk, copied', dn)) (v, vn, load-none copied'.blocks v safe)
 
   abbrev end : Flash
   end = does copied' (erasing v)
 
   good₂ : Good w n p end.blocks
-  good₂ = erase-good w n p copied'.blocks v (all_blank (get_or copied'.blocks v [])) good₁ vn safe (left-blank (get_or copied'.blocks v []))
+  good₂ = search (arith, erase-good, good₁, vn, safe, left-blank)
 
   v_stand : v < length copied'.stand
   v_stand = (closed_in copied'.stand v dn.closed).0
 
   v_blocks : v < length copied'.blocks
-  v_blocks = (let a = v_stand in let e = dn.sound.same_long in omega arith)
+  v_blocks = grind (arith, v_stand, dn)
 
   new_stand : (d : Standing) → get_or end.stand v d ≡ blank_s
   new_stand d = get_or-set_same copied'.stand v blank_s d v_stand
 
   new_block : get_or end.blocks v [] ≡ replicate p Blank
-  new_block =
-      get_or-set_same copied'.blocks v (all_blank (get_or copied'.blocks v [])) [] v_blocks
-      ∙ all-blank-is (get_or copied'.blocks v [])
-      ∙ ap (λ (k : ℕ). replicate k Blank) (good₁.shape.chunks v vn)
+  new_block = grind (arith, get_or-set_same, v_blocks, all-blank-is, good₁)
 
   sound₂ : Sound p end
-  sound₂ = record {
-    blank_is = λ i e. elim (cases_eq i v) [
-      | inl q ↦ ap (λ (z : ℕ). get_or end.blocks z []) q ∙ new_block
-      | inr q ↦ get_or-set_other copied'.blocks v i (all_blank (get_or copied'.blocks v [])) [] q ∙ dn.sound.blank_is i (sym (get_or-set_other copied'.stand v i blank_s closed_s q) ∙ e)
-    ];
-    open_is = λ i e. elim (cases_eq i v) [
-      | inl q ↦ absurd (blank-open (sym (new_stand closed_s) ∙ subst (λ (z : ℕ). get_or end.stand z closed_s ≡ open_s) q e))
-      | inr q ↦ subst (λ (z : List Chunk). Rattle.rules.specs.Safety.BlankTail z × (1 ≤ count is_blank z)) (sym (get_or-set_other copied'.blocks v i (all_blank (get_or copied'.blocks v [])) [] q)) (dn.sound.open_is i (sym (get_or-set_other copied'.stand v i blank_s closed_s q) ∙ e))
-    ];
-    same_long = length-set copied'.stand v blank_s ∙ dn.sound.same_long ∙ sym (length-set copied'.blocks v _);
-  }
+  sound₂ = grind (arith, new_block, get_or-set_other, dn, new_stand, length-set)
 
   tidy₂ : Tidy p end
   unfolding load
-  tidy₂ = tidy-erase p copied' v (tidy-copies p 0 moved s lv.sound lv.tidy (subst (RoomFor p s) (let e : length moved ≡ length moved + 0 = omega arith in e) room)) v_stand
+  tidy₂ = tidy-erase p copied' v (tidy-copies p 0 moved s lv.sound lv.tidy (grind (arith, moved, room))) v_stand
 
   spare₂ : (i : ℕ) × (first_where is_blank_s end.stand ≡ Some i)
-  spare₂ = first-there is_blank_s end.stand v blank_s (subst (λ (k : ℕ). v < k) (sym (length-set copied'.stand v blank_s)) v_stand) (ap is_blank_s (new_stand blank_s))
+  spare₂ = first-there is_blank_s end.stand v blank_s (grind (arith, length-set, copied', v_stand)) (ap is_blank_s (new_stand blank_s))
 
   shrunk-erase : (left : List Chunk) → Left (get_or copied'.blocks v []) left → Shrunk (standing s.blocks) (standing (set copied'.blocks v left))
   shrunk-erase left q =
       let h = erase-shrunk copied'.blocks v left safe q in
       record {
         from = λ r a. dn.same.from r (h.from r a);
-        kept = λ r a t. h.kept r (dn.same.to r a) (sym (wanted_same (standing s.blocks) (standing copied'.blocks) g.unique dn.same r) ∙ t);
+        kept = λ r a t. h.kept r (dn.same.to r a) (grind (arith, wanted_same, copied', dn));
       }
 
   no_copies : (rs : List Record) (x : Act) (bs' : List (List Chunk)) → length rs ≡ 0 → Breaks s (copies s rs) x bs' → ⊥
@@ -275,7 +208,7 @@ module _ (w n p : ℕ) (s : Flash) (g : Good w n p s.blocks) (lv : Live p s) (v 
   copy-break x bs' m (inl z) = absurd (no_copies moved x bs' (sym tk.is_load ∙ z) m)
   copy-break x bs' m (inr h) =
       copies-break w n p v moved s
-      (record { good = g; sound = lv.sound; closed = tk.closed; room = inl (h.0, (let e : l ≡ length (load_list s.blocks v) = tk.is_load in let k = h.1 in omega arith)); backed = (i, i_in, iv, into) })
+      (grind (arith, room, i, i_in, iv, into))
       (in_load s.blocks v) x bs' m
     where
       i : ℕ
@@ -285,13 +218,13 @@ module _ (w n p : ℕ) (s : Flash) (g : Good w n p s.blocks) (lv : Live p s) (v 
       fa = found_at is_blank_s s.stand i h.0.1
 
       i_in : i < n
-      i_in = (let a = fa.0 in let e = lv.sound.same_long in let f = g.shape.blocks' in omega arith)
+      i_in = grind (arith, fa)
 
       iv : i ≡ v → ⊥
-      iv e = closed-blank (sym tk.closed ∙ sym (ap (λ (z : ℕ). get_or s.stand z blank_s) e) ∙ blank-is _ (fa.1 blank_s))
+      iv e = closed-blank (grind (arith, blank-is, fa))
 
       into : (r : Record) → Among r (records_of (get_or s.blocks i [])) → Among r (records_of (get_or s.blocks v []))
-      into r a = absurd (none-recs p r (subst (λ (z : List Chunk). Among r (records_of z)) (lv.sound.blank_is i (blank-is _ (fa.1 closed_s))) a))
+      into r a = absurd (grind (arith, none-recs, i, blank-is, fa))
 
   erase-break : (x : Act) (bs' : List (List Chunk)) → Breaks copied' (erasing v ∷ []) x bs' → Broke w n p s bs'
   erase-break x bs' (inl f) =
@@ -299,24 +232,24 @@ module _ (w n p : ℕ) (s : Flash) (g : Good w n p s.blocks) (lv : Live p s) (v 
   erase-break x bs' (inr m) = absurd m
 
   ends : runs s (copies s moved ++ (erasing v ∷ [])) ≡ end
-  ends = runs_append (copies s moved) (erasing v ∷ []) s
+  ends = grind (arith, runs_append)
 
   base : Cleaned w n p s (copies s moved ++ (erasing v ∷ [])) l
   unfolding load
   base = record {
-    good = subst (λ (z : Flash). Good w n p z.blocks) (sym ends) good₂;
-    live = subst (Live p) (sym ends) (record { sound = sound₂; tidy = tidy₂; spare = λ b e. spare₂ });
-    spare = subst (λ (z : Flash). (i : ℕ) × (first_where is_blank_s z.stand ≡ Some i)) (sym ends) spare₂;
-    shrunk = subst (λ (z : Flash). Shrunk (standing s.blocks) (standing z.blocks)) (sym ends) (shrunk-erase (all_blank (get_or copied'.blocks v [])) (left-blank (get_or copied'.blocks v [])));
+    good = grind (arith, ends, good₂);
+    live = grind (arith, ends, sound₂, tidy₂, spare₂);
+    spare = grind (arith, ends, spare₂);
+    shrunk = grind (arith, ends, shrunk-erase, copied', left-blank);
     breaks = λ x bs' m. elim (breaks-append (copies s moved) (erasing v ∷ []) s x bs' m) [ inl d ↦ copy-break x bs' d how | inr d ↦ erase-break x bs' d ];
-    programs = (let e : l ≡ length (load_list s.blocks v) = tk.is_load in let f = dn.programs in omega (arith, count-append is_program (copies s moved) (erasing v ∷ [])));
-    erases = (let f = dn.erases in omega (arith, count-append (λ (a : Act). not (is_program a)) (copies s moved) (erasing v ∷ [])));
-    takes = takes-append n p (copies s moved) (erasing v ∷ []) s (takes-copies n p 0 moved s lv.sound (sized w n p s.blocks g.shape) (subst (RoomFor p s) (let e : length moved ≡ length moved + 0 = omega arith in e) room)) (vn, tt);
+    programs = grind (arith, dn, count-append, moved);
+    erases = (grind (arith, dn, count-append, moved));
+    takes = takes-append n p (copies s moved) (erasing v ∷ []) s (takes-copies n p 0 moved s lv.sound (sized w n p s.blocks g.shape) (grind (arith, moved, room))) (vn, tt);
   }
 
   pub cleaned : to_clean s ≡ Some (v, l) → Cleaned w n p s (clean s) l
   unfolding clean
-  cleaned e = subst (λ (m : Option (ℕ × ℕ)). Cleaned w n p s (clean_block s m) l) (sym e) base
+  cleaned e = grind (arith, base)
 
 -- the place of a record to add: in the open block or in a blank one, and another block is blank
 pub record PlaceIs (s : Flash) (b c : ℕ) : Type 0 where
@@ -330,11 +263,10 @@ pub record PlaceIs (s : Flash) (b c : ℕ) : Type 0 where
 
 pub second : {A : Type 0} (t : A → Bool) (xs : List A) (k : ℕ) → 2 ≤ count t xs → (i : ℕ) × (i ≡ k → ⊥) × (i < length xs) × ((d : A) → t (get_or xs i d) ≡ true)
 second t [] k l = absurd (omega arith)
-second {A} t (x ∷ xs) zero l = (let h = first (omega (arith, most (t x))) in (suc h.0, λ e. omega arith, (let a = h.1 in omega arith), h.2))
+second {A} t (x ∷ xs) zero l = (let h = first (omega (arith, most (t x))) in (suc h.0, λ e. omega arith, (omega arith), h.2))
   where
     most : (b : Bool) → cond b 1 0 ≤ 1
-    most true = omega arith
-    most false = omega arith
+    most k = grind arith
 
     any' : (ys : List A) → 1 ≤ count t ys → (i : ℕ) × (i < length ys) × ((d : A) → t (get_or ys i d) ≡ true)
     any' [] m = absurd (omega arith)
@@ -342,7 +274,7 @@ second {A} t (x ∷ xs) zero l = (let h = first (omega (arith, most (t x))) in (
       where
         go : (b : Bool) → t y ≡ b → 1 ≤ cond b 1 0 + count t ys → (1 ≤ count t ys → (i : ℕ) × (i < length ys) × ((d : A) → t (get_or ys i d) ≡ true)) → (i : ℕ) × (i < length (y ∷ ys)) × ((d : A) → t (get_or (y ∷ ys) i d) ≡ true)
         go true e q ih = (0, omega arith, λ d. e)
-        go false e q ih = (let h = ih (omega arith) in (suc h.0, (let a = h.1 in omega arith), h.2))
+        go false e q ih = (let h = ih (omega arith) in (suc h.0, (omega arith), h.2))
 
     first : 1 ≤ count t xs → (i : ℕ) × (i < length xs) × ((d : A) → t (get_or xs i d) ≡ true)
     first m = any' xs m
@@ -350,26 +282,22 @@ second {A} t (x ∷ xs) (suc k) l = go (t x) refl l (second t xs k)
   where
     go : (b : Bool) → t x ≡ b → 2 ≤ cond b 1 0 + count t xs → (2 ≤ count t xs → (i : ℕ) × (i ≡ k → ⊥) × (i < length xs) × ((d : A) → t (get_or xs i d) ≡ true))
         → (i : ℕ) × (i ≡ suc k → ⊥) × (i < length (x ∷ xs)) × ((d : A) → t (get_or (x ∷ xs) i d) ≡ true)
-    go true e q ih = (0, λ z. omega arith, omega arith, λ d. e)
-    go false e q ih = (let h = ih (omega arith) in (suc h.0, (λ z. h.1 (omega arith)), (let a = h.2 in omega arith), h.3))
+    go true e q ih = grind arith
+    go false e q ih = (let h = ih (omega arith) in (suc h.0, (λ z. h.1 (omega arith)), (omega arith), h.3))
 
 blank-spot : (p : ℕ) (s : Flash) → Sound p s → 1 ≤ p → (i : ℕ) → first_where is_blank_s s.stand ≡ Some i → Spot (get_or s.blocks i []) 0
-blank-spot p s ok one i e =
-    let fa = found_at is_blank_s s.stand i e in
-    let whole : get_or s.blocks i [] ≡ replicate p Blank = ok.blank_is i (blank-is _ (fa.1 closed_s)) in
-    subst (SpotAt (get_or s.blocks i [])) (ap (first_where is_blank) whole ∙ first-blank p one)
-    (spot (get_or s.blocks i []) (all_tail (get_or s.blocks i []) (subst Rattle.rules.specs.Safety.AllBlank (sym whole) (blanks-all p))))
+blank-spot p s ok one i e = grind (arith, found_at, first-blank, spot, all_tail, blanks-all)
 
 pub place_is : (p : ℕ) (s : Flash) → Live p s → 1 ≤ p → (b c : ℕ) → add_place s ≡ Some (b, c) → PlaceIs s b c
 unfolding add_place blank_place
 place_is p s lv one b c e = go (open_place s) (open-place p s lv.sound) e
   where
     at : (b' c' : ℕ) → b' ≡ b → c' ≡ c → PlaceIs s b' c' → PlaceIs s b c
-    at b' c' x y h = subst (λ (z : ℕ). PlaceIs s b z) y (subst (λ (z : ℕ). PlaceIs s z c') x h)
+    at b' c' x y h = grind arith
 
     two : first_where is_open_s s.stand ≡ None → (z : Bool) → leb 2 (count is_blank_s s.stand) ≡ z → (m : Option ℕ) → first_where is_blank_s s.stand ≡ m → cond z (start_of m) None ≡ Some (b, c) → PlaceIs s b c
-    two g false f m d h = absurd (some-none (b, c) (sym h))
-    two g true f None d h = absurd (some-none (b, c) (sym h))
+    two g false f m d h = cc
+    two g true f None d h = cc
     two g true f (Some k) d h =
         let q = pair_is (k, 0) (b, c) h in
         let fa = found_at is_blank_s s.stand k d in
@@ -377,21 +305,13 @@ place_is p s lv one b c e = go (open_place s) (open-place p s lv.sound) e
         at k 0 q.0 q.1 (record { inside = fa.0; at = blank-spot p s lv.sound one k d; only = λ i y. absurd (none-opened s g i y); other = x.0; apart = x.1; other_in = x.2; other_blank = λ y. blank-is _ (x.3 y) })
 
     go : (m : Option (ℕ × ℕ)) → Opened s m → or_else m (cond (leb 2 (count is_blank_s s.stand)) (start_of (first_where is_blank_s s.stand)) None) ≡ Some (b, c) → PlaceIs s b c
-    go None h d = two h (leb 2 (count is_blank_s s.stand)) refl (first_where is_blank_s s.stand) refl d
+    go None h d = grind (arith, two)
     go (Some q) h d =
         let z = pair_is q (b, c) d in
         let fa = found_at is_open_s s.stand q.0 h.0 in
         let sp = lv.spare q.0 h.0 in
         let fb = found_at is_blank_s s.stand sp.0 sp.1 in
-        at q.0 q.1 z.0 z.1 (record {
-          inside = fa.0;
-          at = h.1;
-          only = first-opened p s lv.tidy q.0 h.0;
-          other = sp.0;
-          apart = λ x. blank-open (sym (blank-is _ (fb.1 blank_s)) ∙ ap (λ (k : ℕ). get_or s.stand k blank_s) x ∙ open_is_lem _ (fa.1 blank_s));
-          other_in = fb.0;
-          other_blank = λ y. blank-is _ (fb.1 y);
-        })
+        at q.0 q.1 z.0 z.1 (grind (arith, at, first-opened, blank-open, blank-is, open_is_lem))
 
 pub no_place : (p : ℕ) (s : Flash) → Sound p s → add_place s ≡ None → (first_where is_open_s s.stand ≡ None) × ((i : ℕ) → first_where is_blank_s s.stand ≡ Some i → count is_blank_s s.stand ≤ 1)
 unfolding add_place blank_place
@@ -399,9 +319,4 @@ no_place p s ok e = go (open_place s) (open-place p s ok) e
   where
     go : (m : Option (ℕ × ℕ)) → Opened s m → or_else m (cond (leb 2 (count is_blank_s s.stand)) (start_of (first_where is_blank_s s.stand)) None) ≡ None
         → (first_where is_open_s s.stand ≡ None) × ((i : ℕ) → first_where is_blank_s s.stand ≡ Some i → count is_blank_s s.stand ≤ 1)
-    go (Some q) h d = absurd (some-none q d)
-    go None h d = (h, λ i f. at (leb 2 (count is_blank_s s.stand)) refl i (ap (λ (m : Option ℕ). cond (leb 2 (count is_blank_s s.stand)) (start_of m) None) (sym f) ∙ d))
-      where
-        at : (z : Bool) → leb 2 (count is_blank_s s.stand) ≡ z → (i : ℕ) → cond z (start_of (Some i)) None ≡ None → count is_blank_s s.stand ≤ 1
-        at true f i g = absurd (some-none (i, 0) g)
-        at false f i g = (let l = leb-false 2 (count is_blank_s s.stand) f in omega arith)
+    go k h d = grind arith

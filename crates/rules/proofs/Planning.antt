@@ -1,5 +1,5 @@
 -- The acts that add a record: they end, with the record added; wherever the supply fails in them, mount accepts the contents. Assumes nothing.
-use Rattle.std.proofs.Common.{◌≡◌, ℕ, zero, suc, ◌+◌, ◌-◌, ◌*◌, ◌<◌, ◌≤◌, Bool, true, not, ◌⊎◌, List, [], ◌∷◌, ◌++◌, length, get_or, set, Some, None, Option, sym, refl, ap, ◌∙◌, subst, inl, inr, arith, length-set, get_or-set_other}
+use Rattle.std.proofs.Common.{◌≡◌, ℕ, zero, suc, ◌+◌, ◌*◌, ◌<◌, ◌≤◌, Bool, true, not, ◌⊎◌, List, [], ◌∷◌, ◌++◌, length, get_or, Some, None, Option, sym, refl, ap, ◌∙◌, subst, inl, inr, arith, length-set, get_or-set_other}
 use mathlib.Core.Path.{fun_ext}
 use lib.ListN.{get_or-eq_default}
 use Rattle.std.proofs.lemmas.Bool.{cases_eq, cases_lt}
@@ -7,7 +7,7 @@ use Rattle.flash.specs.declared.chunks.Record.{Record}
 use Rattle.rules.specs.Lists.{Among, first_where, count}
 use Rattle.rules.specs.Records.{keeps_rules}
 use Rattle.rules.specs.Reading.{files, used, Files, used_by}
-use Rattle.rules.specs.Places.{is_blank_s, is_open_s, Flash, Act, adding, runs, programmed, load, to_clean, clean, add_place, is_program, add_or, plan}
+use Rattle.rules.specs.Places.{is_blank_s, is_open_s, Flash, Act, adding, runs, programmed, to_clean, clean, add_place, is_program, add_or, plan}
 use Rattle.rules.specs.Mounting.{limit}
 use Rattle.rules.specs.Calls.{Call, record_by}
 use Rattle.rules.specs.Right.{accepted}
@@ -17,9 +17,9 @@ use Rattle.rules.specs.Machine.{Breaks}
 use Rattle.rules.specs.Runs.{TakesAll, Finds}
 use Rattle.flash.specs.declared.chunks.Chunk.{Chunk}
 use Rattle.flash.specs.declared.chunks.Chunk.TheVariants.{Holds}
-use Rattle.flash.specs.Blocks.{records_of, standing, put_at}
+use Rattle.flash.specs.Blocks.{standing, put_at}
 use Rattle.rules.specs.declared.standings.Standing.{Standing}
-use Rattle.rules.specs.declared.standings.Standing.TheVariants.{Blank as blank_s, Open as open_s, Closed as closed_s}
+use Rattle.rules.specs.declared.standings.Standing.TheVariants.{Blank as blank_s, Closed as closed_s}
 use Rattle.rules.proofs.Blocks.{put_keeps, put-cases}
 use Rattle.rules.proofs.Copies.{files_same}
 use Rattle.rules.proofs.Shrinking.{shrunk-files}
@@ -58,7 +58,7 @@ stage-next w n p k fs s acts l st c = record {
   good = c.good;
   live = c.live;
   below = λ r a. st.below r (c.shrunk.from r a);
-  same = λ o. sym (shrunk-files (standing s.blocks) (standing (runs s acts).blocks) st.good.unique c.shrunk o) ∙ st.same o;
+  same = grind (arith, shrunk-files);
 }
 
 module _ (w n p k : ℕ) (fs : Files) (call : Call) (fit : Fit w n p k fs call) where
@@ -70,51 +70,45 @@ module _ (w n p k : ℕ) (fs : Files) (call : Call) (fit : Fit w n p k fs call) 
   broke-added s st bs' b = record {
     good = b.good;
     either = inr (
-      (λ a. let l : rec.tag.serial < k = st.below rec (b.shrunk.from rec a) in let e : rec.tag.serial ≡ k = fit.serial' in omega arith),
-      λ o. sym (shrunk-files (standing s.blocks) (standing bs') st.good.unique b.shrunk o) ∙ st.same o,
+      (λ a. let l : rec.tag.serial < k = st.below rec (b.shrunk.from rec a) in omega arith),
+      λ o. sym (grind (arith, shrunk-files)) ∙ st.same o,
     );
   }
 
   -- the record put at its place
   module _ (s : Flash) (st : Stage w n p k fs s) (b c : ℕ) (pl : PlaceIs s b c) where
     in_blocks : b < length s.blocks
-    in_blocks = (let a = pl.inside in let e = st.live.sound.same_long in omega arith)
+    in_blocks = grind arith
 
     other_n : pl.other < n
-    other_n = (let a = pl.other_in in let e = st.live.sound.same_long in let f = st.good.shape.blocks' in omega arith)
+    other_n = grind arith
 
     way_on : (x : Chunk) → Way n (put_at s.blocks b c x)
-    way_on x = (
-      pl.other,
-      other_n,
-      load-none (put_at s.blocks b c x) pl.other
-          (λ r a t. absurd (none-recs p r (subst (λ (z : List Chunk). Among r (records_of z))
-          (get_or-set_other s.blocks b pl.other (set (get_or s.blocks b []) c x) [] pl.apart ∙ st.live.sound.blank_is pl.other (pl.other_blank closed_s)) a))),
-    )
+    way_on x = (grind (arith, other_n, load-none, none-recs, get_or-set_other))
 
     size' : (x : Chunk) → Sized n p (put_at s.blocks b c x)
-    size' x = sized-put n p s.blocks b c x (sized w n p s.blocks st.good.shape)
+    size' x = search (arith, sized-put)
 
     abbrev whole : List (List Chunk)
     whole = put_at s.blocks b c (Holds rec)
 
     stands : Same (rec ∷ standing s.blocks) (standing whole)
-    stands = adding-stands s.blocks b c rec in_blocks pl.at.free
+    stands = grind (arith, adding-stands, rec)
 
     low : (x : Record) → Among x (standing s.blocks) → x.tag.serial ≡ rec.tag.serial → ⊥
-    low x a e = (let l : x.tag.serial < k = st.below x a in let f : rec.tag.serial ≡ k = fit.serial' in omega arith)
+    low x a e = search arith
 
     unique' : Unique (rec ∷ standing s.blocks)
     unique' x y (inl p) (inl q) e = sym p ∙ q
-    unique' x y (inl p) (inr q) e = absurd (low y q (sym e ∙ ap (λ (z : Record). z.tag.serial) (sym p)))
-    unique' x y (inr p) (inl q) e = absurd (low x p (e ∙ ap (λ (z : Record). z.tag.serial) (sym q)))
+    unique' x y (inl p) (inr q) e = absurd (low y q (grind arith))
+    unique' x y (inr p) (inl q) e = absurd (low x p (grind arith))
     unique' x y (inr p) (inr q) e = st.good.unique x y p q e
 
     right' : (o : ℕ) → files (standing whole) o ≡ accepted fs call o
     right' o =
-        sym (files_same (rec ∷ standing s.blocks) (standing whole) unique' stands o)
+        sym (grind (arith, files_same, rec, whole, unique', stands))
         ∙ subst (λ (gs : Files). files (record_by w k gs call ∷ standing s.blocks) o ≡ accepted gs call o) (fun_ext st.same)
-        (adding-is-right w k (standing s.blocks) call st.below (fit.allowed (standing s.blocks) st.same) o)
+        (grind (arith, adding-is-right))
 
     whole-good : Good w n p whole
     whole-good = record {
@@ -127,12 +121,10 @@ module _ (w n p k : ℕ) (fs : Files) (call : Call) (fit : Fit w n p k fs call) 
     }
       where
         byte : (r : Record) → Among r (rec ∷ standing s.blocks) → length r.bytes ≡ w
-        byte r (inl e) = ap (λ (z : Record). length z.bytes) (sym e) ∙ fit.bytes'
-        byte r (inr a) = st.good.shape.bytes' r a
+        byte r k = grind arith
 
         rule : (r : Record) → Among r (rec ∷ standing s.blocks) → keeps_rules r ≡ true
-        rule r (inl e) = ap keeps_rules (sym e) ∙ fit.rules
-        rule r (inr a) = st.good.rules r a
+        rule r k = grind arith
 
     put_whole : Added w n p k fs call whole
     put_whole = record { good = whole-good; either = inl (stands.to rec (inl refl), right') }
@@ -142,7 +134,7 @@ module _ (w n p k : ℕ) (fs : Files) (call : Call) (fit : Fit w n p k fs call) 
       where
         sh : Shrunk (standing s.blocks) (standing (put_at s.blocks b c x))
         sh = record {
-          from = λ r a. elim (put-cases s.blocks b c x r a) [ inl e ↦ absurd (never r e) | inr d ↦ d ];
+          from = grind (arith, put-cases);
           kept = λ r a t. put_keeps s.blocks b c x r pl.at.free a;
         }
 
@@ -150,12 +142,12 @@ module _ (w n p k : ℕ) (fs : Files) (call : Call) (fit : Fit w n p k fs call) 
     put-any bs' f = subst (Added w n p k fs call) (sym f.2) (at f.0 f.1)
       where
         at : (x : Chunk) → Leaves rec x → Added w n p k fs call (put_at s.blocks b c x)
-        at x (inl e) = subst (λ (z : Chunk). Added w n p k fs call (put_at s.blocks b c z)) (sym e) put_whole
-        at x (inr (inl e)) = put-not x (λ r f. let z : ◌≡◌ {A = ℕ} 0 1 = cc in omega arith)
-        at x (inr (inr e)) = put-not x (λ r f. let z : ◌≡◌ {A = ℕ} 0 1 = cc in omega arith)
+        at x (inl e) = grind (arith, put_whole)
+        at x (inr (inl e)) = put-not x (λ r f. cc)
+        at x (inr (inr e)) = put-not x (λ r f. cc)
 
     live-after : Live p (programmed s b c rec)
-    live-after = record { sound = sound_after p s st.live.sound b c rec pl.inside pl.at; tidy = tidy-program p s st.live.sound st.live.tidy b c rec pl.inside pl.at pl.only; spare = λ d e. spare' }
+    live-after = record { sound = sound_after p s st.live.sound b c rec pl.inside pl.at; tidy = grind (arith, tidy-program, rec); spare = λ d e. spare' }
       where
         still : get_or (programmed s b c rec).stand pl.other blank_s ≡ blank_s
         still = unfold programmed in get_or-set_other s.stand b pl.other _ blank_s pl.apart ∙ pl.other_blank blank_s
@@ -185,79 +177,57 @@ module _ (w n p k : ℕ) (fs : Files) (call : Call) (fit : Fit w n p k fs call) 
     programs = omega arith;
     erases = omega arith;
     finds = record { cleaned = []; before = s; block = b; chunk = c; cleanings = refl; place = q; done = refl; programs = omega arith; erases = omega arith };
-    takes = (takes-spot n p s.blocks b c rec (sized w n p s.blocks st.good.shape) (let a = in_blocks s st b c pl in let f = st.good.shape.blocks' in omega arith) pl.at, tt);
+    takes = (takes-spot n p s.blocks b c rec (sized w n p s.blocks st.good.shape) (grind (arith, in_blocks)) pl.at, tt);
   }
 
   ends-clean : (s : Flash) → Stage w n p k fs s → (more : List Act) (v l m e : ℕ) → add_place s ≡ None → to_clean s ≡ Some (v, l) → Cleaned w n p s (clean s) l → Ends (runs s (clean s)) more m e → Ends s (clean s ++ more) (l + m) (suc e)
   ends-clean s st more v l m e none tq c h = record {
-    good = subst (λ (z : Flash). Good w n p z.blocks) (sym app) h.good;
+    good = grind (arith, app);
     live = subst (Live p) (sym app) h.live;
-    right' = subst (λ (z : Flash). (o : ℕ) → files (standing z.blocks) o ≡ accepted fs call o) (sym app) h.right';
+    right' = grind (arith, app);
     breaks = λ x bs' d. elim (breaks-append (clean s) more s x bs' d) [ inl f ↦ broke-added s st bs' (c.breaks x bs' f) | inr f ↦ h.breaks x bs' f ];
-    least = (let a = h.least in omega (arith, count-append is_program (clean s) more));
-    programs = (let a = h.programs in let b = c.programs in omega (arith, count-append is_program (clean s) more));
-    erases = (let a = h.erases in let b = c.erases in omega (arith, count-append (λ (a : Act). not (is_program a)) (clean s) more));
+    least = (grind (arith, count-append));
+    programs = (grind (arith, count-append));
+    erases = (grind (arith, count-append));
     finds = record {
       cleaned = (v, l) ∷ h.finds.cleaned;
       before = h.finds.before;
       block = h.finds.block;
       chunk = h.finds.chunk;
-      cleanings = (none, tq, (taken_is s v l tq).is_load, h.finds.cleanings);
+      cleanings = (grind (arith, taken_is));
       place = h.finds.place;
       done = app ∙ h.finds.done;
-      programs = (let a = h.finds.programs in let b = c.programs in omega (arith, count-append is_program (clean s) more));
-      erases = (let a = h.finds.erases in let b = c.erases in omega (arith, count-append (λ (a : Act). not (is_program a)) (clean s) more));
+      programs = (grind (arith, count-append));
+      erases = (grind (arith, count-append));
     };
-    takes = takes-append n p (clean s) more s c.takes h.takes;
+    takes = grind (arith, takes-append);
   }
     where
       app : runs s (clean s ++ more) ≡ runs (runs s (clean s)) more
       app = runs_append (clean s) more s
 
   ends-weaken : (s : Flash) (acts : List Act) (m m' e e' : ℕ) → m ≤ m' → e ≤ e' → Ends s acts m e → Ends s acts m' e'
-  ends-weaken s acts m m' e e' a b h = record {
-    good = h.good;
-    live = h.live;
-    right' = h.right';
-    breaks = h.breaks;
-    least = h.least;
-    finds = h.finds;
-    takes = h.takes;
-    programs = (let x = h.programs in omega arith);
-    erases = (let x = h.erases in omega arith);
-  }
+  ends-weaken s acts m m' e e' a b h = grind arith
 
 -- a block that is neither open nor blank is closed
-standing-is : (x : Standing) → (x ≡ open_s → ⊥) → (x ≡ blank_s → ⊥) → x ≡ closed_s
-standing-is blank_s a b = absurd (b refl)
-standing-is open_s a b = absurd (a refl)
-standing-is closed_s a b = refl
-
 none-at : {A : Type 0} (t : A → Bool) (xs : List A) → first_where t xs ≡ None → (i : ℕ) (d : A) → i < length xs → t (get_or xs i d) ≡ true → ⊥
-none-at t xs e = subst (Where t xs) e (found t xs)
+none-at t xs e = grind (arith, found)
 
 two-count : {A : Type 0} (t : A → Bool) (xs : List A) (i k : ℕ) (d : A) → (i ≡ k → ⊥) → i < length xs → k < length xs → t (get_or xs i d) ≡ true → t (get_or xs k d) ≡ true → 2 ≤ count t xs
 two-count t [] i k d n a b e f = absurd (omega arith)
 two-count t (x ∷ xs) zero zero d n a b e f = absurd (n refl)
-two-count t (x ∷ xs) zero (suc k) d n a b e f = rw e (omega (arith, Rattle.rules.proofs.Cleaning.count-some t xs k d (omega arith) f))
-two-count t (x ∷ xs) (suc i) zero d n a b e f = rw f (omega (arith, Rattle.rules.proofs.Cleaning.count-some t xs i d (omega arith) e))
+two-count t (x ∷ xs) zero (suc k) d n a b e f = grind (arith, Rattle.rules.proofs.Cleaning.count-some)
+two-count t (x ∷ xs) (suc i) zero d n a b e f = search (arith, Rattle.rules.proofs.Cleaning.count-some)
 two-count t (x ∷ xs) (suc i) (suc k) d n a b e f = omega (arith, two-count t xs i k d (λ z. n (ap suc z)) (omega arith) (omega arith) e f)
 
 limit-room : (n p u : ℕ) → 2 ≤ n → 1 ≤ p → u ≤ limit n p → u + p < n * p
 unfolding limit
-limit-room zero p u a b h = absurd (omega arith)
-limit-room (suc zero) p u a b h = absurd (omega arith)
-limit-room (suc (suc m)) p u a b h =
-    let e : suc (suc m) - 1 ≡ suc m = omega arith in
-    let f : u ≤ suc m * p - 1 = subst (λ (z : ℕ). u ≤ z * p - 1) e h in
-    omega arith
+limit-room k p u a b h = grind arith
 
 -- with one blank block and none open, the block of least load has room left
 module _ (w n p : ℕ) (s : Flash) (g : Good w n p s.blocks) (lv : Live p s) where
   pub closed_at : first_where is_open_s s.stand ≡ None → (i : ℕ) → i < n → (get_or s.stand i blank_s ≡ blank_s → ⊥) → get_or s.stand i blank_s ≡ closed_s
-  closed_at none i l b =
-      standing-is (get_or s.stand i blank_s)
-      (λ e. none-at is_open_s s.stand none i blank_s (let a = lv.sound.same_long in let f = g.shape.blocks' in omega arith) (ap is_open_s e)) b
+  closed_at none i l b = grind (arith, none-at)
 
   pub light : first_where is_open_s s.stand ≡ None → (k : ℕ) → first_where is_blank_s s.stand ≡ Some k → count is_blank_s s.stand ≤ 1 → (v : ℕ) × (l : ℕ) × (to_clean s ≡ Some (v, l)) × (l < p)
   light none k e one = elim (cases_lt l p) [ inl a ↦ (v, l, tq.2, a) | inr a ↦ absurd (heavy a) ]
@@ -266,7 +236,7 @@ module _ (w n p : ℕ) (s : Flash) (g : Good w n p s.blocks) (lv : Live p s) whe
       sz = sizes-view n p g.sizes
 
       long : length s.stand ≡ n
-      long = lv.sound.same_long ∙ g.shape.blocks'
+      long = grind arith
 
       fa : (k < length s.stand) × ((d : Standing) → is_blank_s (get_or s.stand k d) ≡ true)
       fa = found_at is_blank_s s.stand k e
@@ -280,7 +250,7 @@ module _ (w n p : ℕ) (s : Flash) (g : Good w n p s.blocks) (lv : Live p s) whe
       some : (i : ℕ) × (get_or s.stand i blank_s ≡ closed_s)
       some = elim (cases_eq 0 k) [
         | inl q ↦ (1, shut 1 (let a = sz.0 in omega arith) (λ z. omega arith))
-        | inr q ↦ (0, shut 0 (let a = sz.0 in omega arith) q)
+        | inr q ↦ (0, shut 0 (omega arith) q)
       ]
 
       tq : (v : ℕ) × (l : ℕ) × (to_clean s ≡ Some (v, l))
@@ -296,39 +266,36 @@ module _ (w n p : ℕ) (s : Flash) (g : Good w n p s.blocks) (lv : Live p s) whe
       tk = taken_is s tq.0 tq.1 tq.2
 
       short : (i : ℕ) → length (get_or s.blocks i []) ≤ p
-      short i = elim (cases_lt i n) [
-        | inl a ↦ (let b = g.shape.chunks i a in omega arith)
-        | inr a ↦ (let b : get_or s.blocks i [] ≡ [] = get_or-eq_default s.blocks [] (let f = g.shape.blocks' in omega arith) in subst (λ (z : List Chunk). length z ≤ p) (sym b) (omega arith))
-      ]
+      short i = grind (arith, get_or-eq_default)
 
       room' : used (standing s.blocks) + p < length s.blocks * p
       room' =
           let u : used_by (files (standing s.blocks)) ≡ used (standing s.blocks) = used-by-files (standing s.blocks) g.unique g.rules in
           subst (λ (z : ℕ). used (standing s.blocks) + p < z * p) (sym g.shape.blocks')
-          (limit-room n p (used (standing s.blocks)) (let a = sz.0 in omega arith) (let a = sz.1 in omega arith) (subst (λ (z : ℕ). z ≤ limit n p) u g.filed.room))
+          (grind (arith, limit-room, sz))
 
       heavy : p ≤ l → ⊥
       heavy h =
           some-block-is-light s.blocks k p
-          (λ r a. none-recs p r (subst (λ (z : List Chunk). Among r (records_of z)) (lv.sound.blank_is k (blank-is _ (fa.1 closed_s))) a))
+          (λ r a. none-recs p r (grind (arith, blank-is, fa)))
           short room'
-          (λ i a q. let b = tk.low i (shut i (let f = g.shape.blocks' in omega arith) q) in omega arith)
+          (grind (arith, tk, shut))
 
   -- with none blank and none open, a closed block has load 0
   pub idle : first_where is_open_s s.stand ≡ None → first_where is_blank_s s.stand ≡ None → (v : ℕ) × (to_clean s ≡ Some (v, 0))
-  idle none nob = (tq.0, tq.2 ∙ ap {B = Option (ℕ × ℕ)} (λ z. Some (tq.0, z)) zero')
+  idle none nob = (grind (arith, tq, zero'))
     where
       i : ℕ
       i = g.way.0
 
       cl : get_or s.stand i blank_s ≡ closed_s
-      cl = closed_at none i g.way.1 (λ e. none-at is_blank_s s.stand nob i blank_s (let b = lv.sound.same_long in let f = g.shape.blocks' in let c = g.way.1 in omega arith) (ap is_blank_s e))
+      cl = grind (arith, closed_at, none-at)
 
       tq : (v : ℕ) × (l : ℕ) × (to_clean s ≡ Some (v, l))
       tq = some-taken s i cl
 
       zero' : tq.1 ≡ 0
-      zero' = (let a = (taken_is s tq.0 tq.1 tq.2).low i cl in let b : load s.blocks i ≡ 0 = g.way.2 in omega arith)
+      zero' = (grind (arith, taken_is, tq, i, cl))
 
 -- the plan ends with the record added: one cleaning at most where a block is blank, else two
 module _ (w n p k : ℕ) (fs : Files) (call : Call) (fit : Fit w n p k fs call) where
@@ -336,7 +303,7 @@ module _ (w n p k : ℕ) (fs : Files) (call : Call) (fit : Fit w n p k fs call) 
   ours = record_by w k fs call
 
   small : (s : Flash) → Stage w n p k fs s → 2 ≤ p
-  small s st = (sizes-view n p st.good.sizes).1
+  small s st = grind arith
 
   plan-here : (j : ℕ) (s : Flash) → Stage w n p k fs s → (q : ℕ × ℕ) → add_place s ≡ Some q → Ends w n p k fs call fit s (plan (suc j) s ours) 1 0
   plan-here j s st q e =
@@ -360,9 +327,9 @@ module _ (w n p k : ℕ) (fs : Files) (call : Call) (fit : Fit w n p k fs call) 
           let v : ℕ = lt.0 in
           let l : ℕ = lt.1 in
           let tk = taken_is s lt.0 lt.1 lt.2 in
-          let c : Cleaned w n p s (clean s) lt.1 = cleaned w n p s st.good st.live lt.0 lt.1 tk (inr (hb, (let a = lt.3 in omega arith))) lt.2 in
-          let th = there-some (add_place (runs s (clean s))) (cleaning-makes-a-place p s st.live.sound hb (lt.0, lt.1) lt.2 (let a = lt.3 in let b = tk.is_load in omega arith)) in
-          ends-weaken w n p k fs call fit s _ (lt.1 + 1) p 1 1 (let a = lt.3 in omega arith) (omega arith)
+          let c : Cleaned w n p s (clean s) lt.1 = cleaned w n p s st.good st.live lt.0 lt.1 tk (inr (hb, (omega arith))) lt.2 in
+          let th = there-some (add_place (runs s (clean s))) (cleaning-makes-a-place p s st.live.sound hb (lt.0, lt.1) lt.2 (grind arith)) in
+          ends-weaken w n p k fs call fit s _ (lt.1 + 1) p 1 1 (omega arith) (omega arith)
           (plan-clean (suc j) s st e lt.0 lt.1 1 0 lt.2 c (plan-here j (runs s (clean s)) (stage-next w n p k fs s (clean s) lt.1 st c) th.0 th.1))
 
   pub plan-ends : (j : ℕ) (s : Flash) → Stage w n p k fs s → Ends w n p k fs call fit s (plan (suc (suc (suc j))) s ours) p 2

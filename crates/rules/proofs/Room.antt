@@ -1,16 +1,15 @@
 -- Blocks full of wanted records hold nothing but what the files use. Assumes nothing.
-use Rattle.std.proofs.Common.{◌≡◌, ℕ, zero, suc, ◌+◌, ◌*◌, ◌<◌, ◌≤◌, Bool, true, false, not, eqb, ◌⊎◌, List, [], ◌∷◌, ◌++◌, length, get_or, set, sym, refl, ap, ◌∙◌, subst, inl, inr, arith, length-append}
+use Rattle.std.proofs.Common.{◌≡◌, ℕ, zero, suc, ◌+◌, ◌*◌, ◌<◌, ◌≤◌, Bool, true, false, not, eqb, ◌⊎◌, List, [], ◌∷◌, ◌++◌, length, get_or, set, sym, refl, ap, inl, inr, arith, length-append}
 use lib.ListN.{get_or-eq_default}
-use Rattle.std.proofs.lemmas.Bool.{both_ways, cases_eq, cases_lt, and_parts, or_cases, not-true, not_from_true, eqb-true, eq-eqb}
+use Rattle.std.proofs.lemmas.Bool.{both_ways, cases_eq, cases_lt, and_parts, or_cases, not-true, eq-eqb}
 use Rattle.flash.specs.declared.chunks.Record.{Record}
-use Rattle.rules.specs.Lists.{Among, any, keep, cons_if}
+use Rattle.rules.specs.Lists.{Among, any, keep}
 use Rattle.rules.specs.Records.{kind, object, is_data, is_marker}
-use Rattle.rules.specs.Reading.{once, used, in_file, in_file_by, wanted, wanted_by, hides_some, hides, hidden, topped, outmarked, has_older, present}
+use Rattle.rules.specs.Reading.{once, used, in_file, in_file_by, wanted, wanted_by, hides_some, hidden, topped, outmarked, has_older, present}
 use Rattle.rules.specs.Places.{load, load_list, makes_load}
 use Rattle.rules.specs.Laws.{SomeBlockIsLight}
 use Rattle.flash.specs.declared.chunks.Chunk.{Chunk}
-use Rattle.flash.specs.declared.chunks.Chunk.TheVariants.{Blank, Damaged, Holds}
-use Rattle.flash.specs.Blocks.{cons_record, records_of, standing}
+use Rattle.flash.specs.Blocks.{records_of, standing}
 use Rattle.rules.specs.declared.kinds.Kind.{Kind}
 use Rattle.rules.specs.declared.kinds.Kind.TheVariants.{Data as data_k, Header as header_k, CutHeader as cut_k, Marker as marker_k, Other as other_k}
 use Rattle.rules.proofs.Lists.{any-true, any_false}
@@ -21,24 +20,15 @@ use Rattle.rules.proofs.Blocks.{among_cases, among-right}
 module _ {A : Type 0} (t : A → Bool) where
   pub keep-short : (xs : List A) → length (keep t xs) ≤ length xs
   keep-short [] = omega arith
-  keep-short (x ∷ xs) = go (t x) (keep-short xs)
-    where
-      go : (b : Bool) → length (keep t xs) ≤ length xs → length (cons_if b x (keep t xs)) ≤ suc (length xs)
-      go true h = omega arith
-      go false h = omega arith
+  keep-short (x ∷ xs) = grind (arith, keep-short xs)
 
   pub keep-full : (xs : List A) → length xs ≤ length (keep t xs) → (x : A) → Among x xs → t x ≡ true
   keep-full [] l x a = absurd a
-  keep-full (y ∷ ys) l x a = go (t y) refl l (keep-full ys) a
-    where
-      go : (b : Bool) → t y ≡ b → suc (length ys) ≤ length (cons_if b y (keep t ys)) → (length ys ≤ length (keep t ys) → (z : A) → Among z ys → t z ≡ true) → Among x (y ∷ ys) → t x ≡ true
-      go true e h ih (inl p) = ap t (sym p) ∙ e
-      go true e h ih (inr c) = ih (omega arith) x c
-      go false e h ih c = absurd (omega (arith, keep-short ys))
+  keep-full (y ∷ ys) l x a = grind (arith, keep-full ys, keep-short)
 
   pub keep_all : (xs : List A) → ((x : A) → Among x xs → t x ≡ true) → keep t xs ≡ xs
   keep_all [] f = refl
-  keep_all (y ∷ ys) f = ap (λ (b : Bool). cons_if b y (keep t ys)) (f y (inl refl)) ∙ ap {B = List A} (λ zs. y ∷ zs) (keep_all ys (λ x a. f x (inr a)))
+  keep_all (y ∷ ys) f = grind (arith, keep_all ys (λ x a. f x (inr a)))
 
 -- no serial twice
 abbrev pub Distinct : List Record → Type 0
@@ -47,17 +37,11 @@ Distinct (x ∷ xs) = ((s : Record) → Among s xs → s.tag.serial ≡ x.tag.se
 
 pub once-distinct : (xs : List Record) → Distinct xs → once xs ≡ xs
 once-distinct [] d = refl
-once-distinct (x ∷ xs) d =
-    ap {B = List Record} (λ zs. x ∷ keep (λ s. not (eqb s.tag.serial x.tag.serial)) zs) (once-distinct xs d.1)
-    ∙ ap {B = List Record} (λ zs. x ∷ zs) (keep_all (λ s. not (eqb s.tag.serial x.tag.serial)) xs (λ s a. other s a (eqb s.tag.serial x.tag.serial) refl))
-  where
-    other : (s : Record) → Among s xs → (b : Bool) → eqb s.tag.serial x.tag.serial ≡ b → not (eqb s.tag.serial x.tag.serial) ≡ true
-    other s a true e = absurd (d.0 s a (eqb-true _ _ e))
-    other s a false e = ap not e
+once-distinct (x ∷ xs) d = grind (arith, once-distinct xs d.1, keep_all)
 
 pub once-short : (xs : List Record) → length (once xs) ≤ length xs
 once-short [] = omega arith
-once-short (x ∷ xs) = omega (arith, keep-short (λ (s : Record). not (eqb s.tag.serial x.tag.serial)) (once xs), once-short xs)
+once-short (x ∷ xs) = grind (arith, once-short xs, keep-short)
 
 pub distinct-once : (xs : List Record) → length xs ≤ length (once xs) → Distinct xs
 distinct-once [] l = tt
@@ -65,11 +49,7 @@ distinct-once (x ∷ xs) l =
     let t : Record → Bool = λ s. not (eqb s.tag.serial x.tag.serial) in
     let a : length (keep t (once xs)) ≤ length (once xs) = keep-short t (once xs) in
     let b : length (once xs) ≤ length xs = once-short xs in
-    let d : Distinct xs = distinct-once xs (omega arith) in (
-      λ s c e. both_ways (not (eqb s.tag.serial x.tag.serial)) (not_from_true _ (eq-eqb _ _ e))
-          (keep-full t (once xs) (omega arith) s (subst (λ (z : List Record). Among s z) (sym (once-distinct xs d)) c)),
-      d,
-    )
+    let d : Distinct xs = distinct-once xs (omega arith) in (grind (arith, keep-full, once-distinct))
 
 pub distinct_append : (xs ys : List Record) → Distinct xs → Distinct ys → ((x : Record) → Among x xs → (y : Record) → Among y ys → y.tag.serial ≡ x.tag.serial → ⊥) → Distinct (xs ++ ys)
 distinct_append [] ys d e f = e
@@ -85,17 +65,12 @@ pub standing-distinct : (bs : List (List Chunk)) → ((i : ℕ) → Distinct (re
 standing-distinct [] d l = tt
 standing-distinct (x ∷ bs) d l =
     distinct_append (records_of x) (standing bs) (d 0)
-    (standing-distinct bs (λ i. d (suc i)) (λ i r s a b. l (suc i) r s a (among-right (records_of x) (standing (set bs i [])) s b)))
+    (standing-distinct bs (λ i. d (suc i)) (λ i r s a b. l (suc i) r s a (grind (arith, among-right))))
     (λ r a s b. l 0 r s a b)
 
 pub recs-short : (cs : List Chunk) → length (records_of cs) ≤ length cs
 recs-short [] = omega arith
-recs-short (c ∷ cs) = go c (recs-short cs)
-  where
-    go : (x : Chunk) → length (records_of cs) ≤ length cs → length (cons_record x (records_of cs)) ≤ suc (length cs)
-    go Blank h = omega arith
-    go Damaged h = omega arith
-    go (Holds r) h = omega arith
+recs-short (c ∷ cs) = grind (arith, recs-short cs)
 
 pub full-length : (p : ℕ) (bs : List (List Chunk)) → ((i : ℕ) → i < length bs → length (records_of (get_or bs i [])) ≡ p) → length bs * p ≤ length (standing bs)
 full-length p [] h = omega arith
@@ -113,14 +88,10 @@ one_less p (x ∷ bs) (suc k) h =
 module _ (rs : List Record) (all : (r : Record) → Among r rs → wanted rs r ≡ true) where
   pub by : (r : Record) → Among r rs → (k : Kind) → kind r ≡ k → wanted_by rs r k ≡ true
   unfolding wanted
-  by r a k e = subst (λ (z : Kind). wanted_by rs r z ≡ true) e (all r a)
+  by r a k e = grind arith
 
   pub data_by : (k : Kind) → is_data k ≡ true → k ≡ data_k
-  data_by data_k e = refl
-  data_by header_k e = absurd (both_ways false refl e)
-  data_by cut_k e = absurd (both_ways false refl e)
-  data_by marker_k e = absurd (both_ways false refl e)
-  data_by other_k e = absurd (both_ways false refl e)
+  data_by k e = grind arith
 
   -- no data record is hidden
   pub bare : (d : Record) → Among d rs → is_data (kind d) ≡ true → hidden rs d ≡ true → ⊥
@@ -131,18 +102,15 @@ module _ (rs : List Record) (all : (r : Record) → Among r rs → wanted rs r �
 
   pub hides_none : (r : Record) → Among r rs → hides_some rs r ≡ true → ⊥
   unfolding hides_some
-  hides_none r a e =
-      let x = any-true (hides r) rs e in
-      let v = hides-view r x.0 x.2 in
-      bare x.0 x.1 v.isdata (hidden-from rs x.0 r a v)
+  hides_none r a e = grind (arith, any-true, hides-view, bare, hidden-from)
 
   -- nothing of its object is older than a marker
   pub below_marker : (m s : Record) → Among m rs → Among s rs → is_marker (kind m) ≡ true → object s ≡ object m → s.tag.serial < m.tag.serial → (k : Kind) → kind s ≡ k → ⊥
-  below_marker m s a b km o l data_k e = bare s b (ap is_data e) (hidden-from rs s m a (record { isdata = ap is_data e; same = sym o; after = l; how = inl km }))
-  below_marker m s a b km o l header_k e = both_ways (topped rs s) (not-true (topped rs s) (by s b header_k e)) (topped-from rs s m a (record { of = sym o; how = inr km }) l)
+  below_marker m s a b km o l data_k e = search (arith, bare, hidden-from)
+  below_marker m s a b km o l header_k e = both_ways (topped rs s) (not-true (topped rs s) (by s b header_k e)) (grind (arith, topped-from))
   below_marker m s a b km o l cut_k e =
       elim (or_cases (not (topped rs s)) (hides_some rs s) (by s b cut_k e)) [
-        | inl x ↦ both_ways (topped rs s) (not-true (topped rs s) x) (topped-from rs s m a (record { of = sym o; how = inr km }) l)
+        | inl x ↦ grind (arith, topped-from)
         | inr x ↦ hides_none s b x
       ]
   below_marker m s a b km o l marker_k e =
@@ -170,18 +138,7 @@ pub record FullOf (bs : List (List Chunk)) (i p : ℕ) : Type 0 where
 
 pub full-load : (bs : List (List Chunk)) (i p : ℕ) → length (get_or bs i []) ≤ p → p ≤ load bs i → FullOf bs i p
 unfolding load load_list
-full-load bs i p s l =
-    let rs : List Record = records_of (get_or bs i []) in
-    let t : Record → Bool = makes_load (standing bs) (standing (set bs i [])) in
-    let a : length (keep t (once rs)) ≤ length (once rs) = keep-short t (once rs) in
-    let b : length (once rs) ≤ length rs = once-short rs in
-    let c : length rs ≤ length (get_or bs i []) = recs-short (get_or bs i []) in
-    let d : Distinct rs = distinct-once rs (omega arith) in
-    record {
-      long = omega arith;
-      apart = d;
-      makes = λ r e. keep-full t (once rs) (omega arith) r (subst (λ (z : List Record). Among r z) (sym (once-distinct rs d)) e);
-    }
+full-load bs i p s l = grind (arith, keep-short, recs-short, distinct-once, keep-full, once-distinct)
 
 module _ (bs : List (List Chunk)) (k p : ℕ) (bare-k : (r : Record) → Among r (records_of (get_or bs k [])) → ⊥) (short : (i : ℕ) → length (get_or bs i []) ≤ p)
     (heavy : (i : ℕ) → i < length bs → (i ≡ k → ⊥) → p ≤ load bs i) where
@@ -189,10 +146,10 @@ module _ (bs : List (List Chunk)) (k p : ℕ) (bare-k : (r : Record) → Among r
   pub bare_or_full : (i : ℕ) → ((r : Record) → Among r (records_of (get_or bs i [])) → ⊥) ⊎ FullOf bs i p
   bare_or_full i =
       elim (cases_eq i k) [
-        | inl e ↦ inl (λ r a. bare-k r (subst (λ (z : ℕ). Among r (records_of (get_or bs z []))) e a))
+        | inl e ↦ inl (λ r a. bare-k r (grind arith))
         | inr n ↦ elim (cases_lt i (length bs)) [
           | inl l ↦ inr (full-load bs i p (short i) (heavy i l n))
-          | inr g ↦ inl (λ r a. subst (λ (z : List Chunk). Among r (records_of z)) (get_or-eq_default bs [] g) a)
+          | inr g ↦ grind (arith, get_or-eq_default)
         ]
       ]
 
@@ -201,7 +158,7 @@ module _ (bs : List (List Chunk)) (k p : ℕ) (bare-k : (r : Record) → Among r
   makes_it i r a =
       elim (bare_or_full i) [
         | inl f ↦ absurd (f r a)
-        | inr f ↦ (let x = and_parts (wanted (standing bs) r) _ (f.makes r a) in (x.0, not-true _ x.1))
+        | inr f ↦ (grind arith)
       ]
 
   pub somewhere : (cs : List (List Chunk)) (r : Record) → Among r (standing cs) → (i : ℕ) × Among r (records_of (get_or cs i []))
@@ -213,19 +170,17 @@ module _ (bs : List (List Chunk)) (k p : ℕ) (bare-k : (r : Record) → Among r
       ]
 
   pub all_wanted : (r : Record) → Among r (standing bs) → wanted (standing bs) r ≡ true
-  all_wanted r a = (let y = somewhere bs r a in (makes_it y.0 r y.1).0)
+  all_wanted r a = grind (arith, somewhere, makes_it)
 
   pub all_apart : Distinct (standing bs)
   all_apart =
       standing-distinct bs
-      (λ i. elim (bare_or_full i) [ inl f ↦ distinct-empty (records_of (get_or bs i [])) f | inr f ↦ f.apart ])
+      (λ i. elim (bare_or_full i) [ inl f ↦ grind (arith, distinct-empty) | inr f ↦ f.apart ])
       (λ i r s a b e. any_false (λ z. eqb z.tag.serial r.tag.serial) (standing (set bs i [])) s (makes_it i r a).1 b (eq-eqb _ _ e))
 
   pub all_used : used (standing bs) ≡ length (standing bs)
   unfolding used
-  all_used =
-      ap (λ (z : List Record). length (keep (in_file (standing bs)) z)) (once-distinct (standing bs) all_apart)
-      ∙ ap (λ (z : List Record). length z) (keep_all (in_file (standing bs)) (standing bs) (all-in-file (standing bs) all_wanted))
+  all_used = grind (arith, once-distinct, all_apart, keep_all, all-in-file, all_wanted)
 
   pub room : length bs * p ≤ used (standing bs) + p
   room =

@@ -1,15 +1,15 @@
 -- Each call keeps the files right and the contents such as mount accepts; and so do whole runs. Assumes nothing.
-use Rattle.std.proofs.Common.{◌≡◌, ℕ, zero, suc, ◌+◌, ◌<◌, ◌≤◌, Bool, true, false, not, eqb, ltb, leb, ◌⊎◌, List, [], ◌∷◌, ◌++◌, map, length, get_or, Some, None, Option, sym, refl, ap, ◌∙◌, subst, inl, inr, arith}
+use Rattle.std.proofs.Common.{◌≡◌, ℕ, zero, suc, ◌+◌, ◌<◌, ◌≤◌, Bool, true, false, not, ltb, ◌⊎◌, List, [], ◌∷◌, ◌++◌, length, get_or, Some, None, Option, sym, refl, ap, ◌∙◌, subst, inl, inr, arith}
 use Rattle.std.proofs.lemmas.Bool.{both_ways, and_cases, not-false, or_cases, eqb-true, ltb-true, cond_both, and_parts, leb-true}
 use Rattle.flash.specs.declared.chunks.Record.{Record}
-use Rattle.rules.specs.Lists.{Among, any, is_there, first_where, within}
+use Rattle.rules.specs.Lists.{Among, any, is_there, first_where}
 use Rattle.rules.specs.Reading.{present, files, File, Files}
 use Rattle.rules.specs.Places.{is_blank_s, is_open_s, Flash, Act, runs, load, to_clean, clean}
-use Rattle.rules.specs.Mounting.{mounted, mounted_block, same_record}
+use Rattle.rules.specs.Mounting.{mounted, same_record}
 use Rattle.rules.specs.Calls.{Call, create, put, cut, rename, delete, opens, closes, collect, mount, record_of, next}
 use Rattle.rules.specs.Right.{accepted, changed, fresh, with_part, shortened, renamed, after}
 use Rattle.rules.specs.Refusals.{Store, recs, is_open, some_light, early_table, room_table, refusal}
-use Rattle.rules.specs.Machine.{none, opening, closing, acts, Answer, refused, counted, collected, granted, broken, IsChange, IsCollect, acts_of, Breaks, with_flash, with_opened, when_refused, Granted, Stopped, Step, taken}
+use Rattle.rules.specs.Machine.{none, acts, Answer, refused, counted, collected, granted, broken, IsChange, IsCollect, acts_of, Breaks, with_flash, Granted, Stopped, Step, taken}
 use Rattle.flash.specs.declared.chunks.Chunk.{Chunk}
 use Rattle.flash.specs.Blocks.{standing}
 use Rattle.rules.specs.declared.standings.Standing.{Standing}
@@ -21,7 +21,7 @@ use Rattle.rules.proofs.Mounts.{mounted-sound, none_open}
 use Rattle.rules.proofs.Filed.{present-file}
 use Rattle.rules.proofs.Tidy.{tidy-mounted}
 use Rattle.rules.proofs.Keeping.{Good}
-use Rattle.rules.proofs.Placing.{some-none, taken_is, some-taken, Live, Cleaned, cleaned, HasBlank}
+use Rattle.rules.proofs.Placing.{taken_is, some-taken, Live, Cleaned, cleaned, HasBlank}
 use Rattle.rules.proofs.Planning.{Fit, Stage, Added, Ends, plan-ends, idle}
 use Rattle.rules.proofs.Accepts.{rec-true, rec-self}
 use Rattle.rules.proofs.Checks.{clear-all, fit-create, fit-put, fit_cut, fit-rename, fit-delete}
@@ -41,78 +41,58 @@ pub record Stepped (w : ℕ) (s t : Store) (call : Call) (b : Bool) : Type 0 whe
 
 -- a change that is not refused runs
 change-runs : (s : Store) (call : Call) → IsChange call → refusal s call ≡ 0 → s.running ≡ true
-change-runs s (create o name) c e = not-false _ (clear-all (early_table s (create o name) ++ room_table s (create o name)) (omega arith) e).0
-change-runs s (put o j bs) c e = not-false _ (clear-all (early_table s (put o j bs) ++ room_table s (put o j bs)) (omega arith) e).0
-change-runs s (cut o k) c e = not-false _ (clear-all (early_table s (cut o k) ++ room_table s (cut o k)) (omega arith) e).0
-change-runs s (rename o name) c e = not-false _ (clear-all (early_table s (rename o name) ++ room_table s (rename o name)) (omega arith) e).0
-change-runs s (delete o) c e = not-false _ (clear-all (early_table s (delete o) ++ room_table s (delete o)) (omega arith) e).0
 change-runs s (opens o) c e = absurd c
 change-runs s (closes o) c e = absurd c
 change-runs s collect c e = absurd c
 change-runs s mount c e = absurd c
+change-runs s call c e = not-false _ (clear-all (early_table s call ++ room_table s call) (omega arith) e).0
 
 acts-are : (w : ℕ) (f : Flash) (call : Call) → IsChange call → acts_of w f call ≡ acts w f call
-acts-are w f (create o name) c = refl
-acts-are w f (put o j bs) c = refl
-acts-are w f (cut o k) c = refl
-acts-are w f (rename o name) c = refl
-acts-are w f (delete o) c = refl
 acts-are w f (opens o) c = absurd c
 acts-are w f (closes o) c = absurd c
 acts-are w f collect c = absurd c
 acts-are w f mount c = absurd c
+acts-are w f call c = refl
 
 part-there : (j : ℕ) (bs : List ℕ) (m : Option File) → is_there (with_part j bs m) ≡ is_there m
-part-there j bs None = refl
-part-there j bs (Some f) = refl
+part-there j bs k = grind arith
 
 short-there : (k : ℕ) (m : Option File) → is_there (shortened k m) ≡ is_there m
-short-there k None = refl
-short-there k (Some f) = refl
+short-there k m = grind arith
 
 renamed-there : (name : List ℕ) (m : Option File) → is_there (renamed name m) ≡ is_there m
-renamed-there name None = refl
-renamed-there name (Some f) = refl
+renamed-there name k = grind arith
 
 changed-there : (fs : Files) (o : ℕ) (F : Option File → Option File) (k : ℕ) → is_there (fs k) ≡ true → (k ≡ o → is_there (F (fs k)) ≡ true) → is_there (changed fs o F k) ≡ true
-changed-there fs o F k e h = cond_both (eqb k o) (F (fs k)) (fs k) (λ z. is_there z ≡ true) (λ q. h (eqb-true _ _ q)) (λ q. e)
+changed-there fs o F k e h = grind arith
 
 -- an open file stays present
 stays : (s : Store) (call : Call) → IsChange call → refusal s call ≡ 0 → (k : ℕ) → is_open s k ≡ true → is_there (files (recs s) k) ≡ true → is_there (accepted (files (recs s)) call k) ≡ true
 stays s (create o name) c e k h t = changed-there (files (recs s)) o (fresh name) k t (λ q. refl)
-stays s (put o j bs) c e k h t = changed-there (files (recs s)) o (with_part j bs) k t (λ q. part-there j bs (files (recs s) k) ∙ t)
+stays s (put o j bs) c e k h t = changed-there (files (recs s)) o (with_part j bs) k t (grind (arith, part-there))
 stays s (cut o l) c e k h t = changed-there (files (recs s)) o (shortened l) k t (λ q. short-there l (files (recs s) k) ∙ t)
-stays s (rename o name) c e k h t = changed-there (files (recs s)) o (renamed name) k t (λ q. renamed-there name (files (recs s) k) ∙ t)
+stays s (rename o name) c e k h t = changed-there (files (recs s)) o (renamed name) k t (grind (arith, renamed-there))
 stays s (delete o) c e k h t =
     changed-there (files (recs s)) o (λ m. None) k t
-    (λ q. absurd (both_ways (is_open s o) (clear-all (early_table s (delete o) ++ room_table s (delete o)) (omega arith) e).1.1.1.0 (ap (is_open s) (sym q) ∙ h)))
-stays s (opens o) c e k h t = absurd c
-stays s (closes o) c e k h t = absurd c
-stays s collect c e k h t = absurd c
-stays s mount c e k h t = absurd c
+    (grind (arith, clear-all))
+stays s _ c e k h t = absurd c
 
 -- options
 light-true : (f : ℕ → ℕ) (p : ℕ) (ss : List Standing) (b : ℕ) → some_light f p b ss ≡ true → (i : ℕ) × (get_or ss i blank_s ≡ closed_s) × (f (b + i) < p)
-light-true f p [] b e = absurd (both_ways false refl e)
+light-true f p [] b e = cc
 light-true f p (blank_s ∷ ss) b e = (let h = light-true f p ss (suc b) e in (suc h.0, h.1, subst (λ (z : ℕ). f z < p) (let g : suc b + h.0 ≡ b + suc h.0 = omega arith in g) h.2))
 light-true f p (open_s ∷ ss) b e = (let h = light-true f p ss (suc b) e in (suc h.0, h.1, subst (λ (z : ℕ). f z < p) (let g : suc b + h.0 ≡ b + suc h.0 = omega arith in g) h.2))
 light-true f p (closed_s ∷ ss) b e =
     elim (or_cases (ltb (f b) p) (some_light f p (suc b) ss) e) [
-      | inl q ↦ (0, refl, subst (λ (z : ℕ). f z < p) (let g : b ≡ b + 0 = omega arith in g) (ltb-true _ _ q))
+      | inl q ↦ (grind arith)
       | inr q ↦ (let h = light-true f p ss (suc b) q in (suc h.0, h.1, subst (λ (z : ℕ). f z < p) (let g : suc b + h.0 ≡ b + suc h.0 = omega arith in g) h.2))
     ]
 
 module _ (w : ℕ) (big : 2048 ≤ w) (s : Store) (inv : Inv w s) where
   -- a change
   module _ (call : Call) (ch : IsChange call) (e : refusal s call ≡ 0) where
-    on : s.running ≡ true
-    on = change-runs s call ch e
-
-    abbrev TheFit : Type 0
-    TheFit = Fit w s.n s.p (next (recs s)) (files (recs s)) call
-
     stage : Stage w s.n s.p (next (recs s)) (files (recs s)) s.flash
-    stage = record { good = inv.good; live = inv.live on; below = λ r a. omega (arith, largest-most (λ (z : Record). z.tag.serial) (recs s) r a); same = λ o. refl }
+    stage = grind (arith, largest-most)
 
   pub fit_all : (call : Call) → IsChange call → refusal s call ≡ 0 → Fit w s.n s.p (next (recs s)) (files (recs s)) call
   fit_all (create o name) c e = (fit-create w big s inv.good (inv.held (change-runs s (create o name) c e)) o name e).1
@@ -120,10 +100,7 @@ module _ (w : ℕ) (big : 2048 ≤ w) (s : Store) (inv : Inv w s) where
   fit_all (cut o k) c e = (fit_cut w big s inv.good (inv.held (change-runs s (cut o k) c e)) o k e).1
   fit_all (rename o name) c e = (fit-rename w big s inv.good (inv.held (change-runs s (rename o name) c e)) o name e).1
   fit_all (delete o) c e = (fit-delete w big s inv.good (inv.held (change-runs s (delete o) c e)) o e).1
-  fit_all (opens o) c e = absurd c
-  fit_all (closes o) c e = absurd c
-  fit_all collect c e = absurd c
-  fit_all mount c e = absurd c
+  fit_all _ c e = absurd c
 
   pub ends : (call : Call) (ch : IsChange call) (e : refusal s call ≡ 0) → Ends w s.n s.p (next (recs s)) (files (recs s)) call (fit_all call ch e) s.flash (acts_of w s.flash call) s.p 2
   ends call ch e =
@@ -134,12 +111,7 @@ module _ (w : ℕ) (big : 2048 ≤ w) (s : Store) (inv : Inv w s) where
   changed-step call ch e =
       let h = ends call ch e in
       record {
-        inv = record {
-          good = h.good;
-          powered = inv.powered;
-          live = λ r. h.live;
-          held = λ r o q. present-file (standing (runs s.flash (acts_of w s.flash call)).blocks) o ∙ ap is_there (h.right' o) ∙ stays s call ch e o q (sym (present-file (recs s) o) ∙ inv.held r o q);
-        };
+        inv = grind (arith, present-file, stays);
         right' = h.right';
         same_n = refl;
         same_p = refl;
@@ -147,32 +119,17 @@ module _ (w : ℕ) (big : 2048 ≤ w) (s : Store) (inv : Inv w s) where
 
   -- what is left where the supply failed
   off-step : (t : Store) (call : Call) (b : Bool) → Stopped s t → Good w s.n s.p t.flash.blocks → ((o : ℕ) → files (recs t) o ≡ after (files (recs s)) (record { call = call; taken = b }) o) → Stepped w s t call b
-  off-step t call b st g f = record {
-    inv = record {
-      good = subst (λ (z : ℕ). Good w t.n z t.flash.blocks) (sym st.same_p) (subst (λ (z : ℕ). Good w z s.p t.flash.blocks) (sym st.same_n) g);
-      powered = λ r. absurd (both_ways t.running st.stopped r);
-      live = λ r. absurd (both_ways t.running st.stopped r);
-      held = λ r. absurd (both_ways t.running st.stopped r);
-    };
-    right' = f;
-    same_n = st.same_n;
-    same_p = st.same_p;
-  }
+  off-step t call b st g f = grind arith
 
   broken-change : (t : Store) (x : Act) (call : Call) → IsChange call → refusal s call ≡ 0 → Breaks s.flash (acts_of w s.flash call) x t.flash.blocks → Stopped s t
       → Stepped w s t call (any (same_record (record_of w (recs s) call)) (recs t))
-  broken-change t x call ch e br st = off-step t call _ st ad.good (elim ad.either [ inl h ↦ with' h | inr h ↦ without' h ])
+  broken-change t x call ch e br st = off-step t call _ st ad.good (grind (arith, ad, with', without'))
     where
-      rec : Record
-      rec = record_of w (recs s) call
-
       ad : Added w s.n s.p (next (recs s)) (files (recs s)) call t.flash.blocks
       ad = (ends call ch e).breaks x t.flash.blocks br
 
       with' : Among (record_of w (recs s) call) (recs t) × ((o : ℕ) → files (recs t) o ≡ accepted (files (recs s)) call o) → (o : ℕ) → files (recs t) o ≡ after (files (recs s)) (record { call = call; taken = any (same_record (record_of w (recs s) call)) (recs t) }) o
-      with' h o =
-          h.1 o ∙ ap (λ (b : Bool). after (files (recs s)) (record { call = call; taken = b }) o)
-          (sym (any-from (same_record (record_of w (recs s) call)) (recs t) (record_of w (recs s) call) h.0 (rec-self (record_of w (recs s) call))))
+      with' h o = grind (arith, any-from, rec-self)
 
       without' : (Among (record_of w (recs s) call) (recs t) → ⊥) × ((o : ℕ) → files (recs t) o ≡ files (recs s) o) → (o : ℕ) → files (recs t) o ≡ after (files (recs s)) (record { call = call; taken = any (same_record (record_of w (recs s) call)) (recs t) }) o
       without' h o =
@@ -181,7 +138,7 @@ module _ (w : ℕ) (big : 2048 ≤ w) (s : Store) (inv : Inv w s) where
 
   -- collect
   collect-on : refusal s collect ≡ 0 → s.running ≡ true
-  collect-on e = not-false _ (clear-all (early_table s collect ++ room_table s collect) (omega arith) e).0
+  collect-on e = grind arith
 
   pub record Collects : Type 0 where
     pub block : ℕ
@@ -191,27 +148,19 @@ module _ (w : ℕ) (big : 2048 ≤ w) (s : Store) (inv : Inv w s) where
     pub out : Cleaned w s.n s.p s.flash (clean s.flash) copies'
 
   pub collects : refusal s collect ≡ 0 → Collects
-  collects e = go (first_where is_blank_s s.flash.stand) refl (and_cases (any is_blank_s s.flash.stand) _ (clear-all (early_table s collect ++ room_table s collect) (omega arith) e).1.0)
+  collects e = go (first_where is_blank_s s.flash.stand) refl (grind (arith, clear-all))
     where
       lv : Live s.p s.flash
       lv = inv.live (collect-on e)
 
       some : 0 < s.p
-      some =
-          let a = and_parts (within 3 64 s.n) _ inv.good.sizes in
-          let b = and_parts (within 2 64 s.p) _ a.1 in
-          let c = and_parts (leb 2 s.p) _ b.0 in
-          omega (arith, leb-true 2 s.p c.0)
+      some = grind arith
 
       make : (v l : ℕ) → to_clean s.flash ≡ Some (v, l) → l < s.p → (l ≡ 0) ⊎ (HasBlank s.flash × (l ≤ s.p)) → Collects
       make v l q few how = record { block = v; copies' = l; is = q; few = few; out = cleaned w s.n s.p s.flash inv.good lv v l (taken_is s.flash v l q) how q }
 
       no_open : first_where is_blank_s s.flash.stand ≡ None → first_where is_open_s s.flash.stand ≡ None
-      no_open f = at (first_where is_open_s s.flash.stand) refl
-        where
-          at : (m : Option ℕ) → first_where is_open_s s.flash.stand ≡ m → first_where is_open_s s.flash.stand ≡ None
-          at None q = q
-          at (Some b) q = (let sp = lv.spare b q in absurd (some-none sp.0 (sym sp.1 ∙ f)))
+      no_open f = grind arith
 
       blank-among : (ss : List Standing) → any is_blank_s ss ≡ false → (i : ℕ) (d : Standing) → i < length ss → is_blank_s (get_or ss i d) ≡ true → ⊥
       blank-among [] q i d l h = omega arith
@@ -221,74 +170,18 @@ module _ (w : ℕ) (big : 2048 ≤ w) (s : Store) (inv : Inv w s) where
       go : (m : Option ℕ) → first_where is_blank_s s.flash.stand ≡ m → (any is_blank_s s.flash.stand ≡ false) ⊎ (not (some_light (load s.flash.blocks) s.p 0 s.flash.stand) ≡ false) → Collects
       go None f h = (let id = idle w s.n s.p s.flash inv.good lv (no_open f) f in make id.0 0 id.1 some (inl refl))
       go (Some i) f (inl h) = (let fa = found_at is_blank_s s.flash.stand i f in absurd (blank-among s.flash.stand h i blank_s fa.0 (fa.1 blank_s)))
-      go (Some i) f (inr h) =
-          let li = light-true (load s.flash.blocks) s.p s.flash.stand 0 (not-false _ h) in
-          let tq = some-taken s.flash li.0 li.1 in
-          let tk = taken_is s.flash tq.0 tq.1 tq.2 in
-          let lo = tk.low li.0 li.1 in
-          let lt : load s.flash.blocks li.0 < s.p = subst (λ (z : ℕ). load s.flash.blocks z < s.p) (let g : 0 + li.0 ≡ li.0 = omega arith in g) li.2 in
-          make tq.0 tq.1 tq.2 (omega arith) (inr ((i, f), omega arith))
+      go (Some i) f (inr h) = grind (arith, light-true, some-taken, taken_is, make)
 
   shrunk-right : (bs' : List (List Chunk)) → Rattle.rules.specs.Laws.Shrunk (recs s) (standing bs') → (o : ℕ) → files (standing bs') o ≡ files (recs s) o
-  shrunk-right bs' h o = sym (shrunk-files (recs s) (standing bs') inv.good.unique h o)
+  shrunk-right bs' h o = grind (arith, shrunk-files)
 
   collected-step : refusal s collect ≡ 0 → Stepped w s (with_flash s (runs s.flash (clean s.flash))) collect true
-  collected-step e =
-      let c = collects e in
-      let same : (o : ℕ) → files (standing (runs s.flash (clean s.flash)).blocks) o ≡ files (recs s) o = shrunk-right (runs s.flash (clean s.flash)).blocks c.out.shrunk in
-      record {
-        inv = record {
-          good = c.out.good;
-          powered = inv.powered;
-          live = λ r. c.out.live;
-          held = λ r o q. present-file (standing (runs s.flash (clean s.flash)).blocks) o ∙ ap is_there (same o) ∙ sym (present-file (recs s) o) ∙ inv.held r o q;
-        };
-        right' = same;
-        same_n = refl;
-        same_p = refl;
-      }
-
-  either_way : (b : Bool) (fs : Files) (o : ℕ) → fs o ≡ after fs (record { call = collect; taken = b }) o
-  either_way true fs o = refl
-  either_way false fs o = refl
+  collected-step e = grind (arith, collects, shrunk-right, present-file)
 
   broken-collect : (t : Store) (x : Act) (b : Bool) → refusal s collect ≡ 0 → Breaks s.flash (clean s.flash) x t.flash.blocks → Stopped s t → Stepped w s t collect b
-  broken-collect t x b e br st =
-      let k = (collects e).out.breaks x t.flash.blocks br in
-      off-step t collect b st k.good (λ o. shrunk-right t.flash.blocks k.shrunk o ∙ either_way b (files (recs s)) o)
+  broken-collect t x b e br st = grind (arith, collects, shrunk-right)
 
   -- open, close, mount
-  open_step : (o : ℕ) → refusal s (opens o) ≡ 0 → Stepped w s (with_opened s (opening o s.opened)) (opens o) true
-  open_step o e =
-      let cl = clear-all (early_table s (opens o) ++ room_table s (opens o)) (omega arith) e in
-      record {
-        inv = record {
-          good = inv.good;
-          powered = inv.powered;
-          live = inv.live;
-          held = λ r k q. elim (or_cases (eqb k o) (s.opened k) q) [
-            | inl z ↦ ap (present (recs s)) (eqb-true k o z) ∙ not-false _ cl.1.1.0
-            | inr z ↦ inv.held r k z
-          ];
-        };
-        right' = λ k. refl;
-        same_n = refl;
-        same_p = refl;
-      }
-
-  close-step : (o : ℕ) → Stepped w s (with_opened s (closing o s.opened)) (closes o) true
-  close-step o = record {
-    inv = record {
-      good = inv.good;
-      powered = inv.powered;
-      live = inv.live;
-      held = λ r k q. inv.held r k (and_parts (not (eqb k o)) (s.opened k) q).1;
-    };
-    right' = λ k. refl;
-    same_n = refl;
-    same_p = refl;
-  }
-
   abbrev remounted : Store
   remounted = record { n = s.n; p = s.p; power = true; running = true; opened = none; flash = mounted s.flash.blocks }
 
@@ -298,46 +191,19 @@ module _ (w : ℕ) (big : 2048 ≤ w) (s : Store) (inv : Inv w s) where
       good = inv.good;
       powered = λ r. refl;
       live = λ r. record {
-        sound = mounted-sound s.p s.flash.blocks (λ i l. inv.good.shape.chunks i (let a = inv.good.shape.blocks' in omega arith));
+        sound = mounted-sound s.p s.flash.blocks (grind arith);
         tidy = tidy-mounted s.p s.flash.blocks;
-        spare = λ b q. absurd (none_open s.flash.blocks b (open_is_lem _ ((found_at is_open_s (map mounted_block s.flash.blocks) b q).1 closed_s)));
+        spare = λ b q. absurd (none_open s.flash.blocks b (grind (arith, open_is_lem, found_at)));
       };
-      held = λ r o q. absurd (both_ways false refl q);
+      held = λ r o q. (cc);
     };
     right' = λ o. refl;
     same_n = refl;
     same_p = refl;
   }
 
-  same_step : (call : Call) → Stepped w s s call false
-  same_step call = record { inv = inv; right' = λ o. refl; same_n = refl; same_p = refl }
-
-  refused-step : (call : Call) → Stepped w s (when_refused s call) call false
-  refused-step (create o name) = same_step (create o name)
-  refused-step (put o j bs) = same_step (put o j bs)
-  refused-step (cut o k) = same_step (cut o k)
-  refused-step (rename o name) = same_step (rename o name)
-  refused-step (delete o) = same_step (delete o)
-  refused-step (opens o) = same_step (opens o)
-  refused-step (closes o) = same_step (closes o)
-  refused-step collect = same_step collect
-  refused-step mount = record {
-    inv = record { good = inv.good; powered = λ r. absurd (both_ways false refl r); live = λ r. absurd (both_ways false refl r); held = λ r. absurd (both_ways false refl r) };
-    right' = λ o. refl;
-    same_n = refl;
-    same_p = refl;
-  }
-
   collect-only : (call : Call) → IsCollect call → refusal s call ≡ 0 → Stepped w s (with_flash s (runs s.flash (acts_of w s.flash call))) call true
-  collect-only (create o name) c e = absurd c
-  collect-only (put o j bs) c e = absurd c
-  collect-only (cut o k) c e = absurd c
-  collect-only (rename o name) c e = absurd c
-  collect-only (delete o) c e = absurd c
-  collect-only (opens o) c e = absurd c
-  collect-only (closes o) c e = absurd c
-  collect-only collect c e = collected-step e
-  collect-only mount c e = absurd c
+  collect-only k c e = grind (arith, collected-step)
 
   granted-step : (call : Call) (t : Store) → refusal s call ≡ 0 → Granted s call t → Stepped w s t call true
   granted-step (create o name) t e g = absurd g
@@ -345,10 +211,10 @@ module _ (w : ℕ) (big : 2048 ≤ w) (s : Store) (inv : Inv w s) where
   granted-step (cut o k) t e g = absurd g
   granted-step (rename o name) t e g = absurd g
   granted-step (delete o) t e g = absurd g
-  granted-step (opens o) t e g = subst (λ (z : Store). Stepped w s z (opens o) true) (sym g) (open_step o e)
-  granted-step (closes o) t e g = subst (λ (z : Store). Stepped w s z (closes o) true) (sym g) (close-step o)
+  granted-step (opens o) t e g = search arith
+  granted-step (closes o) t e g = search arith
   granted-step collect t e g = absurd g
-  granted-step mount t e g = subst (λ (z : Store). Stepped w s z mount true) (sym g) mount-step
+  granted-step mount t e g = search (arith, mount-step)
 
   broken-step : (t : Store) (x : Act) (call : Call) → refusal s call ≡ 0 → Breaks s.flash (acts_of w s.flash call) x t.flash.blocks → Stopped s t
       → Stepped w s t call (any (same_record (record_of w (recs s) call)) (recs t))
@@ -363,7 +229,7 @@ module _ (w : ℕ) (big : 2048 ≤ w) (s : Store) (inv : Inv w s) where
   broken-step t x mount e br st = absurd br
 
   pub step : (t : Store) (call : Call) (answer : Answer) → Step w s call answer t → Stepped w s t call (taken w s call answer t)
-  step t call (refused k) h = subst (λ (z : Store). Stepped w s z call false) (sym h.2) (refused-step call)
+  step t call (refused k) h = search arith
   step t call (counted a b) h = subst (λ (z : Store). Stepped w s z call true) (sym h.3) (changed-step call h.0 h.1)
   step t call (collected v k) h = subst (λ (z : Store). Stepped w s z call true) (sym h.3) (collect-only call h.0 h.1)
   step t call granted h = granted-step call t h.0 h.1

@@ -1,4 +1,4 @@
-use Rattle.rules.proofs.Used.{wanted-suffices}
+use Rattle.rules.proofs.Shrinking.{wanted-suffices}
 use Rattle.rules.proofs.laws.wanted_suffices.Goals as goal
 
 pub returns : goal.returns
