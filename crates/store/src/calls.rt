@@ -59,7 +59,7 @@ impl<C: Chip> Store<C> {
     }
 
     // Restarts the chip, scans it and checks what it holds. Accepted, the store runs; in any case no file is open.
-    #[tactic(auto, using(crate::proofs::Mounting::flash_mounted, crate::proofs::Mounting::flash_same))]
+    #[tactic(auto, using(crate::proofs::Mounting::flash_mounted, crate::proofs::Mounting::flash_same, crate::proofs::Running::stands_so, crate::proofs::Running::none_present))]
     pub fn mount(&mut self) -> Result<(), Refusal>
         ensures chip { C.Chip.model self.new.chip ≡ started (C.Chip.model self.old.chip) }
         ensures answers { verdict_of result ≡ verdict (C.Chip.model self.old.chip).n (C.Chip.model self.old.chip).p (blocks_of (C.Chip.model self.old.chip)) }

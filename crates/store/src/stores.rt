@@ -1,6 +1,7 @@
 ghost use Rattle.std.specs.Prelude.{◌≡◌, true};
 ghost use Rattle.flash.specs.Model.{view_of};
 ghost use Rattle.scan.specs.Indexes.{Knows};
+ghost use Rattle.store.specs.Running.{StandsSo, OpenPresent};
 
 use flash::Chip;
 use scan::Index;
@@ -15,4 +16,6 @@ pub struct Store<C: Chip> {
     pub(crate) held: [bool; 255],
     pub(crate) running: bool,
     ghost known: { running ≡ true → Knows (view_of (C.Chip.model chip)) index },
+    ghost stands: { running ≡ true → ∥ StandsSo (C.Chip.model chip) index ∥₁ },
+    ghost present: { running ≡ true → OpenPresent (C.Chip.model chip) held },
 }
