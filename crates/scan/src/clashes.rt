@@ -6,7 +6,7 @@ use crate::tables::{Entry, Scan};
 use flash::{Chip, Fault, Place};
 
 impl<C: Chip> Entry<'_, '_, C> {
-    // Whether two records have the same data bytes. By itself: within `clashes_with` the buffers were cleared for every pair.
+    // Whether two records have the same data bytes. By itself: in `clashes_with` the buffers were cleared for every pair.
     fn same_data(&self, other: &Entry<'_, '_, C>) -> Result<bool, Fault>
         ensures { DataAlike (row_of (C.Chip.model self.now.scan.now.chip.now) self.now.row) (row_of (C.Chip.model other.now.scan.now.chip.now) other.now.row) result }
     {
