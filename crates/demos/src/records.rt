@@ -4,7 +4,8 @@ ghost use Rattle.demos.specs.Records.{cut_header, data_chunk};
 use flash::{Record, Tag};
 use rules::{CHUNK_BYTES, CUT_HEADER, OBJECT_BASE};
 
-// `speed` and `probes` make records of their own as well: `speed::fills` says why.
+// `speed` and `probes` make records of their own as well: a function for all would be public, so it could ask nothing of its
+// caller, and would have to refuse long names.
 
 // The header that creates a file or cuts it to a length in chunks.
 pub(crate) fn cut_header(object: u32, chunks: u32, serial: u32, name: &[u8]) -> Record

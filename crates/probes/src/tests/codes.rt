@@ -40,7 +40,7 @@ pub(crate) fn image_of(
     Ok(bytes)
 }
 
-// The chip in an image.
+// The chip in an image. The tests of `image` have the same function: two crates share only what a library makes public.
 pub(crate) fn chip_in(bytes: Vec<u8>) -> Result<ImageChip, Fail> {
     ImageChip::new(bytes).map_err(|_| Fail::new("no image"))
 }
