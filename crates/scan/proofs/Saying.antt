@@ -1,5 +1,5 @@
 -- What a refusal of the store itself says. Assumes nothing.
-use Rattle.std.proofs.Common.{◌≡◌, List, refl}
+use Rattle.std.proofs.Common.{◌≡◌, refl}
 use Rattle.std.specs.Prelude.{◌≢◌}
 use Rattle.flash.specs.declared.faults.Fault.{Fault}
 use Rattle.scan.specs.declared.refusals.Refusal.{Refusal}

@@ -1,5 +1,5 @@
 -- One act done on a chip and noted in its index. Assumes nothing.
-use Rattle.std.proofs.Common.{◌≡◌, ◌≢◌, ℕ, suc, true, ◌+◌, ◌<◌, Bool, cond, [], ◌∷◌, length, get_or, set, take, vec_items, ◌==◌, sym, ap, ◌∙◌, arith, get_or-take}
+use Rattle.std.proofs.Common.{◌≡◌, ◌≢◌, ℕ, suc, true, false, ◌+◌, ◌<◌, Bool, cond, refl, [], ◌∷◌, length, get_or, set, take, vec_items, ◌==◌, sym, ap, ◌∙◌, arith, get_or-take}
 use Rattle.std.proofs.Math.Seq.{take-set-lt}
 use Rattle.flash.specs.declared.chunks.Chunk.TheVariants.{Holds}
 use Rattle.flash.specs.declared.chunks.Place.{Place}
@@ -16,7 +16,6 @@ use Rattle.rules.specs.declared.standings.Standing.{Standing}
 use Rattle.rules.specs.declared.standings.Standing.TheVariants.{Blank as blank_s, Open as open_s, Closed as closed_s}
 use Rattle.rules.specs.Laws.{filled_if}
 use Rattle.rules.specs.Places.{moved, programmed, erasing, runs}
-use Rattle.rules.proofs.Guarding.{standings-move}
 use Rattle.scan.specs.declared.indexes.Index.{Index}
 use Rattle.scan.specs.Indexes.{stands_in}
 use Rattle.writing.specs.Notes.{ProgramNoted, EraseNoted}
@@ -28,6 +27,14 @@ stands-set : (x y : Index) (b : ℕ) (v : Standing) → b < x.sizes.blocks → y
 stands-set x y b v h e n =
     ap (λ (z : Sizes). take z.blocks (vec_items y.standings)) e ∙ ap (take x.sizes.blocks) n ∙ take-set-lt x.sizes.blocks (vec_items x.standings) b v h
 
+-- a block that is not closed is opened, and filled by its last chunk
+opened-filled : (x : Standing) (last : Bool) → x ≢ closed_s → filled_if last (moved Opened x) ≡ cond last closed_s open_s
+opened-filled blank_s true n = refl
+opened-filled blank_s false n = refl
+opened-filled open_s true n = refl
+opened-filled open_s false n = refl
+opened-filled closed_s last n = absurd (n refl)
+
 -- a block that takes a record is open, or closed where that was its last chunk
 block-moved : (s : State) (x : Index) (b c : ℕ) → Tells s x → b < x.sizes.blocks → get_or (stands_in x) b closed_s ≢ closed_s
     → filled_if (c + 1 == x.sizes.chunks) (moved Opened (get_or (vec_items x.standings) b closed_s)) ≡ cond (suc c == length (get_or (blocks_of s) b [])) closed_s open_s
@@ -35,7 +42,7 @@ block-moved s x b c t h n =
     let p : x.sizes.chunks ≡ length (get_or (blocks_of s) b []) = t.chunks ∙ sym (block-length s b (omega (arith, t.blocks))) in
     let last : (c + 1 == x.sizes.chunks) ≡ (suc c == length (get_or (blocks_of s) b [])) = ap (λ (z : ℕ). z == x.sizes.chunks) (let e : c + 1 ≡ suc c = omega arith in e) ∙ ap (λ (z : ℕ). suc c == z) p in
     ap (λ (z : Standing). filled_if (c + 1 == x.sizes.chunks) (moved Opened z)) (sym (get_or-take x.sizes.blocks (vec_items x.standings) b closed_s h))
-    ∙ standings-move.program (get_or (stands_in x) b closed_s) (c + 1 == x.sizes.chunks) n
+    ∙ opened-filled (get_or (stands_in x) b closed_s) (c + 1 == x.sizes.chunks) n
     ∙ ap (λ (z : Bool). cond z closed_s open_s) last
 
 pub program-done : (s t : State) (x y : Index) (u : Purpose) (q : Place) (r : Record) → Tells s x → get_or (stands_in x) q.block closed_s ≢ closed_s → ProgramDone s q r t
@@ -68,7 +75,7 @@ erase-done s t x y b a d note =
     let ib : b < x.sizes.blocks = omega (arith, a.blocks, d.within) in
     let w = note ib in
     let e = erase-view s t b d.within d.after in
-    let f = stands-set x y b blank_s ib w.same_sizes (w.stands ∙ ap (set (vec_items x.standings) b) (standings-move.erase (get_or (vec_items x.standings) b closed_s))) in
+    let f = stands-set x y b blank_s ib w.same_sizes w.stands in
     record {
       tells = record {
         on = d.left_on;
