@@ -1,6 +1,6 @@
 -- Mount accepts contents exactly when they are good. Assumes nothing.
 use Rattle.std.proofs.Common.{◌≡◌, ℕ, zero, suc, ◌+◌, ◌<◌, ◌≤◌, max, Bool, true, false, cond, not, ◌&&◌, eqb, ltb, List, [], ◌∷◌, length, get_or, Some, None, Option, sym, refl, ap, ◌∙◌, subst, inl, inr, arith}
-use Rattle.std.proofs.lemmas.Bool.{both_ways, cases_eq, and_parts, and_cases, and_right, or_cases, not-false, not_from_true, eqb-true, ltb-false, cond-false}
+use Rattle.std.proofs.lemmas.Bool.{both_ways, cases_eq, and_parts, and_cases, and_right, or_cases, not-false, not_from_true, eqb-true, ltb-false, cond-false, le-ltb}
 use Rattle.flash.specs.declared.chunks.Record.{Record}
 use Rattle.rules.specs.Lists.{Among, any, or_else, same_bytes}
 use Rattle.rules.specs.Records.{keeps_rules}
@@ -281,4 +281,8 @@ module _ (w n p : ℕ) (bs : List (List Chunk)) where
   pub good-mount : Good w n p bs → verdict n p bs ≡ None
   good-mount g =
       none-else (plain_if (not (sizes_fit n p)) 9) e10 (grind arith)
-      (grind (arith, none-else, broken-rule, e11, all_first, placed-stands, e12, none-clash, rs, e13, names-to, e14, way-to))
+      (none-else (placed_fault 10 (first_placed broken-rule (placed 0 bs))) e11 (ap (placed_fault 10) (all_first broken-rule (placed 0 bs) (λ q a. not_from_true _ (g.rules q.what (placed-stands 0 bs q a)))))
+      (none-else (placed_fault 11 (first_clash [] (placed 0 bs))) e12 (ap (placed_fault 11) (none-clash (placed 0 bs) [] (record { old = λ q a r b. absurd b; new = λ q q' a a' s. g.unique q.what q'.what (placed-stands 0 bs q a) (placed-stands 0 bs q' a') s })))
+      (none-else (plain_if (two_named (files rs)) 12) e13 (ap (λ (z : Bool). plain_if z 12) (names-to (files rs) g.filed.names))
+      (none-else (plain_if (ltb (limit n p) (used_by (files rs))) 13) e14 (ap (λ (z : Bool). plain_if z 13) (le-ltb _ _ g.filed.room))
+      (ap (λ (z : Bool). plain_if z 14) (way-to n bs g.shape.blocks' g.way))))))

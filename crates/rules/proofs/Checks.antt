@@ -1,5 +1,5 @@
 -- What the checks of a change leave: a record that keeps the rules, and files that mount accepts. Assumes nothing.
-use Rattle.std.proofs.Common.{◌≡◌, ℕ, zero, suc, ◌+◌, ◌≤◌, true, false, cond, not, ◌&&◌, eqb, leb, ◌⊎◌, List, [], ◌∷◌, ◌++◌, length, take, replicate, Some, None, Option, sym, refl, ap, subst, inr, arith, length-append}
+use Rattle.std.proofs.Common.{◌≡◌, ℕ, zero, suc, ◌+◌, ◌≤◌, true, false, cond, not, ◌&&◌, eqb, leb, ◌⊎◌, List, [], ◌∷◌, ◌++◌, length, take, replicate, Some, None, Option, sym, refl, ap, subst, inr, arith, length-append, inl}
 use Rattle.std.proofs.lemmas.Bool.{and_from, not-false, ltb-false, le-leb}
 use Rattle.flash.specs.declared.chunks.Record.{Record}
 use Rattle.rules.specs.Lists.{is_there, within}
@@ -14,7 +14,7 @@ use Rattle.rules.proofs.Removal.{chunk-there, highest-least}
 use Rattle.rules.proofs.Adding.{data-number}
 use Rattle.rules.proofs.Changes.{data-kind}
 use Rattle.rules.proofs.Counting.{object-in}
-use Rattle.rules.proofs.Filed.{some_is, some-none, header_at, file-at, present-file}
+use Rattle.rules.proofs.Filed.{some_is, header_at, file-at, present-file}
 use Rattle.rules.proofs.Keeping.{Good}
 use Rattle.rules.proofs.Objects.{object-false}
 use Rattle.rules.proofs.Accepts.{bytes-from, Names, file-range}
@@ -199,7 +199,7 @@ module _ (w : ℕ) (big : 2048 ≤ w) (s : Store) (g : Good w s.n s.p s.flash.bl
           rules = grind (arith, serial-in, data-kind, within-from);
           bytes' = pad-long w bs (omega arith);
           serial' = refl;
-          filed = grind (arith, names-changed, kept);
+          filed = record { room = grind arith; names = names-changed (files (recs s)) o (with_part j bs) g.filed.names (λ x q. inl (kept (files (recs s) o) refl x q)) };
           allowed = grind (arith, present-still);
         },
       )
@@ -221,8 +221,8 @@ module _ (w : ℕ) (big : 2048 ≤ w) (s : Store) (g : Good w s.n s.p s.flash.bl
           bytes' = pad-long w (length (name_of (files (recs s) o)) ∷ name_of (files (recs s) o)) (omega arith);
           serial' = refl;
           filed = record {
-            room = (grind (arith, changed-mono, cut-less));
-            names = grind (arith, names-changed, kept);
+            room = omega (arith, changed-mono (files (recs s)) o (shortened l) (cut-less l));
+            names = names-changed (files (recs s)) o (shortened l) g.filed.names (λ x q. inl (kept (files (recs s) o) refl x q));
           };
           allowed = λ rs q. present-still o pr rs q;
         },
@@ -267,7 +267,10 @@ module _ (w : ℕ) (big : 2048 ≤ w) (s : Store) (g : Good w s.n s.p s.flash.bl
           rules = grind (arith, serial-in, second-in);
           bytes' = pad-long w [] (omega arith);
           serial' = refl;
-          filed = grind (arith, changed-mono, delete-less, names-changed, some-none);
+          filed = record {
+            room = omega (arith, changed-mono (files (recs s)) o (λ m. None) delete-less);
+            names = names-changed (files (recs s)) o (λ m. None) g.filed.names (λ x q. cc);
+          };
           allowed = λ rs q. tt;
         },
       )

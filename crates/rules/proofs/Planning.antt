@@ -1,5 +1,5 @@
 -- The acts that add a record: they end, with the record added; wherever the supply fails in them, mount accepts the contents. Assumes nothing.
-use Rattle.std.proofs.Common.{◌≡◌, ℕ, zero, suc, ◌+◌, ◌*◌, ◌<◌, ◌≤◌, Bool, true, not, ◌⊎◌, List, [], ◌∷◌, ◌++◌, length, get_or, Some, None, Option, sym, refl, ap, ◌∙◌, subst, inl, inr, arith, length-set, get_or-set_other}
+use Rattle.std.proofs.Common.{◌≡◌, ℕ, zero, suc, ◌+◌, ◌*◌, ◌<◌, ◌≤◌, Bool, true, not, ◌⊎◌, List, [], ◌∷◌, ◌++◌, length, get_or, Some, None, Option, sym, refl, ap, ◌∙◌, subst, inl, inr, arith, length-set, get_or-set_other, set}
 use mathlib.Core.Path.{fun_ext}
 use lib.ListN.{get_or-eq_default}
 use Rattle.std.proofs.lemmas.Bool.{cases_eq, cases_lt}
@@ -17,7 +17,7 @@ use Rattle.rules.specs.Machine.{Breaks}
 use Rattle.rules.specs.Runs.{TakesAll, Finds}
 use Rattle.flash.specs.declared.chunks.Chunk.{Chunk}
 use Rattle.flash.specs.declared.chunks.Chunk.TheVariants.{Holds}
-use Rattle.flash.specs.Blocks.{standing, put_at}
+use Rattle.flash.specs.Blocks.{standing, put_at, records_of}
 use Rattle.rules.specs.declared.standings.Standing.{Standing}
 use Rattle.rules.specs.declared.standings.Standing.TheVariants.{Blank as blank_s, Closed as closed_s}
 use Rattle.rules.proofs.Blocks.{put_keeps, put-cases}
@@ -84,7 +84,13 @@ module _ (w n p k : ℕ) (fs : Files) (call : Call) (fit : Fit w n p k fs call) 
     other_n = grind arith
 
     way_on : (x : Chunk) → Way n (put_at s.blocks b c x)
-    way_on x = (grind (arith, other_n, load-none, none-recs, get_or-set_other))
+    way_on x = (
+      pl.other,
+      other_n,
+      load-none (put_at s.blocks b c x) pl.other
+          (λ r a t. absurd (none-recs p r (subst (λ (z : List Chunk). Among r (records_of z))
+          (get_or-set_other s.blocks b pl.other (set (get_or s.blocks b []) c x) [] pl.apart ∙ st.live.sound.blank_is pl.other (pl.other_blank closed_s)) a))),
+    )
 
     size' : (x : Chunk) → Sized n p (put_at s.blocks b c x)
     size' x = search (arith, sized-put)
@@ -106,7 +112,7 @@ module _ (w n p k : ℕ) (fs : Files) (call : Call) (fit : Fit w n p k fs call) 
 
     right' : (o : ℕ) → files (standing whole) o ≡ accepted fs call o
     right' o =
-        sym (grind (arith, files_same, rec, whole, unique', stands))
+        sym (files_same (rec ∷ standing s.blocks) (standing whole) unique' stands o)
         ∙ subst (λ (gs : Files). files (record_by w k gs call ∷ standing s.blocks) o ≡ accepted gs call o) (fun_ext st.same)
         (grind (arith, adding-is-right))
 

@@ -158,9 +158,9 @@ inv-from w s h = record { good = mount-good w s.n s.p s.flash.blocks h.shaped h.
   where
     live' : Stands s.n s.p s.flash → Live s.p s.flash
     live' st = record {
-      sound = grind arith;
-      tidy = grind arith;
-      spare = λ b q. (let y = st.spare b (grind (arith, open_is_lem, found_at)) in first-there is_blank_s s.flash.stand y.0 closed_s (blank-in s.flash.stand y.0 y.1) (ap is_blank_s y.1));
+      sound = record { blank_is = st.blank_is; open_is = st.open_is; same_long = st.many ∙ sym h.shaped.blocks' };
+      tidy = record { lone = st.lone; blanked = λ i l e. st.blanked i (omega arith) e };
+      spare = λ b q. (let y = st.spare b (open_is_lem _ ((found_at is_open_s s.flash.stand b q).1 closed_s)) in first-there is_blank_s s.flash.stand y.0 closed_s (blank-in s.flash.stand y.0 y.1) (ap is_blank_s y.1));
     }
 
 inv-to : (w : ℕ) (s : Store) → Inv w s → Holds w s
