@@ -6,7 +6,7 @@ ghost use Rattle.bench.specs.Benches.{state_of};
 
 use crate::benches::BenchChip;
 use crate::rows::all_blank;
-use flash::{Act, Chip, Chunk, Fault, Look, Place, Purpose, Record, Sizes};
+use flash::{Act, CHUNK_BYTES, Chip, Chunk, Fault, Look, Place, Purpose, Record, Sizes};
 
 impl Chip for BenchChip {
     ghost model = { state_of };
@@ -20,7 +20,7 @@ impl Chip for BenchChip {
         Ok(self.rows[rows.start].look())
     }
 
-    fn fetch(&self, at: Place, buffer: &mut [u8; 2048]) -> Result<(), Fault> {
+    fn fetch(&self, at: Place, buffer: &mut [u8; CHUNK_BYTES]) -> Result<(), Fault> {
         let rows = self.rows_from(at)?;
         let Chunk::Holds(record) = &self.rows[rows.start] else {
             return Err(Fault::NoRecord);

@@ -17,7 +17,8 @@ pub(crate) fn all_blank(chunks: &[Chunk]) -> bool
 }
 
 impl BenchChip {
-    // The rows of a chunk and all later ones of its block, unless the chip is off or has no such place.
+    // The rows of a chunk and all later ones of its block, unless the chip is off or has no such place: here and in `erase`, as
+    // in `image`, two tests in the chip rules' order; `erase` asks for its block alone, and each chip for its own power.
     #[tactic(auto, using(std::proofs::lemmas::Nat::row_fits))]
     pub(crate) fn rows_from(&self, at: Place) -> Result<Range<usize>, Fault>
         ensures { Found self.now at result }

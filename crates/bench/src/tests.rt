@@ -27,6 +27,7 @@ fn full(heap: Global, count: u32) -> Result<Vec<Chunk>, Fail> {
     Ok(rows)
 }
 
+// As in `probes` and `speed`: crates share only what a library makes public.
 fn chip(rows: Vec<Chunk>, blocks: u32, chunks: u32, plan: Plan) -> Result<BenchChip, Fail> {
     let made = BenchChip::new(rows, Sizes { blocks, chunks }, plan);
     made.map_err(|_| Fail::new("the rows do not fit"))

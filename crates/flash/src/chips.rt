@@ -3,7 +3,7 @@ ghost use Rattle.flash.specs.Model.{State, started};
 ghost use Rattle.flash.specs.Reads.{Sized, Looked, Fetched};
 ghost use Rattle.flash.specs.Writes.{Programmed, Erased};
 
-use crate::chunks::{Look, Place, Record, Sizes};
+use crate::chunks::{CHUNK_BYTES, Look, Place, Record, Sizes};
 use crate::faults::{Fault, Purpose};
 
 // A flash chip: blocks of chunks, both counted from 0, on or off.
@@ -18,7 +18,7 @@ pub trait Chip {
     fn look(&self, at: Place) -> Result<Look, Fault>
         ensures { Looked (model self.now) at result };
 
-    fn fetch(&self, at: Place, buffer: &mut [u8; 2048]) -> Result<(), Fault>
+    fn fetch(&self, at: Place, buffer: &mut [u8; CHUNK_BYTES]) -> Result<(), Fault>
         ensures { Fetched (model self.now) at buffer.old result buffer.new };
 
     // The calls that write.

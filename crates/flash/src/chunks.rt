@@ -3,6 +3,9 @@ ghost use Rattle.flash.specs.Chunks.{look_of, tag_in, Whole, WholeChunk};
 
 use std::ops::Range;
 
+// How many bytes of data a record has.
+pub const CHUNK_BYTES: usize = 2048;
+
 // The four numbers of a record, 32 bits each.
 #[derive(Clone, Copy, PartialEq, Eq, Debug)]
 pub struct Tag {
@@ -16,7 +19,7 @@ pub struct Tag {
 #[derive(Clone, Copy)]
 pub struct Record {
     pub tag: Tag,
-    pub bytes: [u8; 2048],
+    pub bytes: [u8; CHUNK_BYTES],
 }
 
 // What a chunk is.
@@ -101,7 +104,7 @@ impl Sizes {
 }
 
 // What a record's type says of it, for a proof to learn.
-fn sized(tag: Tag, bytes: &[u8; 2048])
+fn sized(tag: Tag, bytes: &[u8; CHUNK_BYTES])
     ensures { Whole (record { tag = tag; bytes = bytes.now }) }
 {}
 

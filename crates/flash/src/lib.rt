@@ -9,5 +9,5 @@ pub mod laws;
 pub mod words;
 
 pub use chips::Chip;
-pub use chunks::{Chunk, Look, Place, Record, Sizes, Tag};
+pub use chunks::{CHUNK_BYTES, Chunk, Look, Place, Record, Sizes, Tag};
 pub use faults::{Act, Fault, Misfit, Purpose, Unmade};

@@ -8,11 +8,12 @@ ghost use Rattle.image.specs.Places.{Found, IsChunk};
 use crate::codes::{BLANK, CHUNK, RECORD, all_blank, code_of, copy_data, look_at};
 use crate::heads::{Head, ON};
 use crate::images::ImageChip;
-use flash::{Chip, Fault, Look, Place, Purpose, Record, Sizes};
+use flash::{CHUNK_BYTES, Chip, Fault, Look, Place, Purpose, Record, Sizes};
 use std::ops::Range;
 
 impl ImageChip {
-    // Where the bytes of a chunk and of all later ones of its block lie, if the chip is on and has it.
+    // Where the bytes of a chunk and of all later ones of its block lie, if the chip is on and has it. The tests here and in
+    // `erase` are those of `bench`, as `BenchChip::rows_from` says.
     fn find(&self, at: Place) -> Result<Range<usize>, Fault>
         ensures { MatchResult result (λ r. Found (bytes_of self.now) at r) (λ f. NotLooked (state_of self.now) at f) }
     {
@@ -54,7 +55,7 @@ impl Chip for ImageChip {
         Ok(look_at(self.chunk(at)?))
     }
 
-    fn fetch(&self, at: Place, buffer: &mut [u8; 2048]) -> Result<(), Fault> {
+    fn fetch(&self, at: Place, buffer: &mut [u8; CHUNK_BYTES]) -> Result<(), Fault> {
         let chunk = self.chunk(at)?;
         if chunk[0] != RECORD {
             return Err(Fault::NoRecord);

@@ -4,7 +4,7 @@ ghost use Rattle.image.specs.Format.{le32, data_of, chunk_of};
 ghost use Rattle.image.specs.Codes.{code_of};
 ghost use Rattle.image.specs.Places.{AllBlank};
 
-use flash::{Look, Record, Tag};
+use flash::{CHUNK_BYTES, Look, Record, Tag};
 
 // How many bytes each chunk takes, and where in a chunk the data begins.
 pub(crate) const CHUNK: usize = 2065;
@@ -36,7 +36,7 @@ pub(crate) fn look_at(chunk: &[u8; CHUNK]) -> Look
 
 // Copies the data bytes of a chunk.
 #[tactic(auto, using(crate::proofs::Coded::all_data))]
-pub(crate) fn copy_data(chunk: &[u8; CHUNK], buffer: &mut [u8; 2048])
+pub(crate) fn copy_data(chunk: &[u8; CHUNK], buffer: &mut [u8; CHUNK_BYTES])
     ensures { buffer.new ≡ data_of chunk.now }
 {
     buffer.copy_from_slice(&chunk[DATA..CHUNK]);

@@ -59,7 +59,7 @@ impl Head {
         }
     }
 
-    // Where a chunk begins.
+    // Where a chunk begins: by arithmetic, since the format says so, and a file is cut into chunks behind a head of 8 bytes.
     pub(crate) fn start_of(self, at: Place) -> usize
         ensures { result ≡ start_of self.chunks at.block at.chunk }
     {

@@ -3,7 +3,7 @@ use crate::images::ImageChip;
 use flash::{Chip, Fault, Look, Place, Purpose, Record, Sizes, Tag};
 use std::test::Fail;
 
-// The number of the refusal of a chip of these bytes, if they are refused.
+// The number of the refusal of a chip of these bytes, if they are refused: by number, as docs/RULES.md names refusals.
 fn refusal(bytes: Vec<u8>) -> Option<u32> {
     ImageChip::new(bytes)
         .err()

@@ -2,6 +2,7 @@ ghost use Rattle.std.specs.Prelude.{◌≡◌};
 ghost use Rattle.texts.specs.Texts.{Adds};
 ghost use Rattle.lines.specs.Bytes.{hexes_text, letter_of, letters_text, data_text};
 
+use flash::CHUNK_BYTES;
 use std::alloc::AllocError;
 
 fn hexes(out: &mut String, bytes: &[u8]) -> Result<(), AllocError>
@@ -31,7 +32,7 @@ fn letters(out: &mut String, bytes: &[u8]) -> Result<(), AllocError>
 }
 
 // The first bytes of a record's data.
-pub fn data(out: &mut String, bytes: &[u8; 2048]) -> Result<(), AllocError>
+pub fn data(out: &mut String, bytes: &[u8; CHUNK_BYTES]) -> Result<(), AllocError>
     ensures { Adds out.old (data_text bytes.now) result out.new }
 {
     let first = &bytes[..16];

@@ -4,7 +4,7 @@ ghost use Rattle.texts.specs.Texts.{Adds};
 ghost use Rattle.lines.specs.Chunks.{held_text, looked_text, chunk_line, block_lines, chip_lines};
 
 use crate::bytes::data;
-use flash::{Chip, Look, Place};
+use flash::{CHUNK_BYTES, Chip, Look, Place};
 use std::alloc::AllocError;
 
 // The text and the chip stay two parameters: methods of a struct of both would hold a `&mut` behind a `&mut`, and say no
@@ -17,7 +17,7 @@ fn held<C: Chip>(out: &mut String, chip: &C, at: Place) -> Result<(), AllocError
     requires { ((C.Chip.model chip.now).on ≡ true) × (Within (C.Chip.model chip.now) at) }
     ensures { Adds out.old (held_text ((C.Chip.model chip.now).cells at.block at.chunk)) result out.new }
 {
-    let mut bytes = [0; 2048];
+    let mut bytes = [0; CHUNK_BYTES];
     if chip.fetch(at, &mut bytes).is_ok() {
         data(out, &bytes)?;
     }

@@ -6,6 +6,7 @@ ghost use Rattle.names.specs.Names.{name_from, entries_of, Empty, Noted};
 
 use crate::entries::{Names, place_of};
 use crate::name::Name;
+use rules::{CHUNK_BYTES, OBJECTS};
 use std::alloc::{AllocError, Global};
 
 impl Names {
@@ -13,7 +14,7 @@ impl Names {
     pub fn new(heap: Global) -> Result<Names, AllocError>
         ensures { IfOk result (λ t. Empty (entries_of t)) }
     {
-        let entries = vec![in heap; None; 255]?;
+        let entries = vec![in heap; None; OBJECTS]?;
         Ok(Names { entries })
     }
 
@@ -34,7 +35,7 @@ impl Names {
     }
 
     // An object has the name now that its header's data begins with.
-    pub fn note(&mut self, object: u32, data: &[u8; 2048])
+    pub fn note(&mut self, object: u32, data: &[u8; CHUNK_BYTES])
         ensures { Noted (entries_of self.old) object (name_from «data».now) (entries_of self.new) }
     {
         self.set(object, Name::of_header(data));

@@ -54,6 +54,7 @@ fn objects(rt: HostRuntime) -> Result<(), Fail> {
     names.put(257, &[b'x'; 41]);
     names.put(257, b"");
     names.put(511, b"x");
+    // by name: the borrow checker takes no literal inside an Option yet
     let (low, x) = (*b"low", *b"x");
     assert_eq!(rt; names.name(257), Some(low.as_slice()));
     assert_eq!(rt; names.name(511), Some(x.as_slice()));

@@ -12,7 +12,7 @@ pub mod standings;
 pub use kinds::Kind;
 pub use limits::{
     CHUNK_BYTES, CUT_HEADER, FIRST_OBJECT, HEADER, LAST_NUMBER, LAST_OBJECT, LONGEST_NAME, MARKER,
-    OBJECT_BASE, fits, is_name, is_object, limit,
+    MOST_BLOCKS, MOST_CHUNKS, OBJECT_BASE, OBJECTS, fits, is_name, is_object, limit,
 };
 pub use rows::Row;
 pub use standings::{Event, Standing};

@@ -11,6 +11,9 @@ pub const FIRST_OBJECT: u32 = 257;
 
 pub const LAST_OBJECT: u32 = 511;
 
+// How many objects there are.
+pub const OBJECTS: usize = 255;
+
 // What headers and markers have their object number above.
 pub const OBJECT_BASE: u32 = 0x1000_0000;
 
@@ -25,9 +28,14 @@ pub const MARKER: u32 = 0xC000_0004;
 // How many bytes the longest name has, how many the data of a chunk, and the highest chunk number.
 pub const LONGEST_NAME: usize = 40;
 
-pub const CHUNK_BYTES: usize = 2048;
+pub const CHUNK_BYTES: usize = flash::CHUNK_BYTES;
 
 pub const LAST_NUMBER: u32 = 1000;
+
+// How many blocks and how many chunks in all the largest chip has that a store takes.
+pub const MOST_BLOCKS: u32 = 64;
+
+pub const MOST_CHUNKS: usize = 2048;
 
 // Whether a number is that of an object.
 pub fn is_object(number: u32) -> bool
@@ -47,7 +55,9 @@ pub fn is_name(bytes: &[u8]) -> bool
 pub fn fits(sizes: Sizes) -> bool
     ensures { result ≡ sizes_fit sizes.blocks sizes.chunks }
 {
-    (3..=64).contains(&sizes.blocks) && (2..=64).contains(&sizes.chunks) && sizes.count() <= 2048
+    (3..=MOST_BLOCKS).contains(&sizes.blocks)
+        && (2..=64).contains(&sizes.chunks)
+        && sizes.count() <= MOST_CHUNKS
 }
 
 // How many chunks the files may use.

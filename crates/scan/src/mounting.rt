@@ -11,7 +11,7 @@ use crate::starts::start;
 use crate::tables::Scan;
 use flash::{Chip, Look, Sizes};
 use names::Names;
-use rules::Standing;
+use rules::{MOST_BLOCKS, MOST_CHUNKS, Standing};
 use std::alloc::{AllocError, Global};
 
 impl Index {
@@ -19,8 +19,8 @@ impl Index {
     pub fn new(heap: Global) -> Result<Index, AllocError>
         ensures { IfOk result (λ x. (x.sizes.blocks ≡ 0) × (x.sizes.chunks ≡ 0)) }
     {
-        let rows = vec![in heap; Look::Blank; 2048]?;
-        let standings = vec![in heap; Standing::Blank; 64]?;
+        let rows = vec![in heap; Look::Blank; MOST_CHUNKS]?;
+        let standings = vec![in heap; Standing::Blank; MOST_BLOCKS as usize]?;
         let names = Names::new(heap)?;
         let sizes = Sizes {
             blocks: 0,

@@ -7,7 +7,8 @@ use crate::indexes::Index;
 use flash::{Chip, Fault, Look, Place, Sizes};
 use rules::Standing;
 
-// The place of a row of the table.
+// The place of a row of the table. Not in `flash` beside `Sizes::row`: open to all it could ask nothing, and would answer an
+// Option, for each record of a scan.
 pub(crate) fn place_of(row: usize, sizes: Sizes) -> Place
     requires { row < sizes.blocks * sizes.chunks }
     ensures block { result.block ≡ row / sizes.chunks }

@@ -5,7 +5,7 @@ ghost use Rattle.scan.specs.Scans.{AllWhole};
 ghost use Rattle.scan.specs.Tables.{TableOf, tag_at, PlaceOf, DataOf};
 
 use crate::scans::place_of;
-use flash::{Chip, Fault, Look, Place, Sizes, Tag};
+use flash::{CHUNK_BYTES, Chip, Fault, Look, Place, Sizes, Tag};
 
 // What a scan found: a chip that is on, its sizes, which a store takes, and what a look told of each chunk.
 #[derive(Drop)]
@@ -53,10 +53,10 @@ impl<C: Chip> Entry<'_, '_, C> {
     }
 
     // The record's data bytes.
-    pub(crate) fn data(&self) -> Result<[u8; 2048], Fault>
+    pub(crate) fn data(&self) -> Result<[u8; CHUNK_BYTES], Fault>
         ensures { DataOf (C.Chip.model self.now.scan.now.chip.now) self.now.row self.now.tag result }
     {
-        let mut data = [0u8; 2048];
+        let mut data = [0; CHUNK_BYTES];
         self.scan.chip.fetch(self.place(), &mut data)?;
         Ok(data)
     }

@@ -13,6 +13,7 @@ impl Refusal {
         ensures { result.now ≡ why_text self.now }
     {
         match self {
+            // `fmt` lets a chip's own refusal speak for itself
             Refusal::Chip(_) => "",
             Refusal::BadSizes =>
                 "the number of blocks is outside 3 to 64, that of chunks in each outside 2 to 64, or that of all chunks over 2,048",

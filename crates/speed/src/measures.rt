@@ -2,7 +2,7 @@ use crate::fills::{SIZES, filled};
 use anyhow::anyhow;
 use bench::{BenchChip, Plan};
 use flash::Chunk;
-use rules::{CHUNK_BYTES, FIRST_OBJECT, LAST_NUMBER, Row};
+use rules::{CHUNK_BYTES, FIRST_OBJECT, LAST_NUMBER, OBJECTS, Row};
 use scan::Refusal;
 use std::fmt;
 use std::time::{Duration, Instant};
@@ -11,7 +11,7 @@ use store::Store;
 // The size of the long file, the first object.
 const BYTES: usize = LAST_NUMBER as usize * CHUNK_BYTES;
 
-// A stopped store over a chip of these rows.
+// A stopped store over a chip of these rows. `probes` makes one as well: crates share only what a library makes public.
 fn attached(rt: &HostRuntime, rows: Vec<Chunk>) -> anyhow::Result<Store<BenchChip>> {
     let sure = Plan::default();
     let chip = BenchChip::new(rows, SIZES, sure).map_err(|_| anyhow!("the rows do not fit"))?;
@@ -46,7 +46,7 @@ fn measure(rt: &HostRuntime, how: &str, count: u32) -> anyhow::Result<()> {
     let mut store = attached(rt, filled(rt.alloc(), count)?)?;
     let ((), time) = timed(rt, || store.mount())?;
     println!(rt; "{how}: mount: {time}")?;
-    let mut rows = [Row::default(); 255];
+    let mut rows = [Row::default(); OBJECTS];
     let (files, time) = timed(rt, || store.list(&mut rows))?;
     println!(rt; "{how}: list of {files} files: {time}")?;
     if files > 0 {

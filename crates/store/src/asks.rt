@@ -47,7 +47,7 @@ impl<C: Chip> Store<C> {
     }
 
     // Reads the bytes of a file from a position on, as many as the buffer holds or the size allows, and answers their
-    // number. The bytes of the buffer beyond them stay.
+    // number. The bytes of the buffer beyond them stay. Object, position and buffer are a read's arguments, as in `questions`.
     pub fn read(&self, object: u32, position: u64, buffer: &mut [u8]) -> Result<usize, Refusal>
         ensures { ReadAnswered (stored self.now) object position buffer.old result buffer.new }
     {

@@ -8,15 +8,16 @@ ghost use Rattle.store.specs.Stored.{stored};
 
 use crate::stores::Store;
 use flash::Chip;
+use rules::OBJECTS;
 use scan::{Index, Refusal};
 use std::alloc::Global;
 
 // No file is open.
 #[tactic(auto, using(crate::proofs::Holding::none_are))]
-fn none_held() -> [bool; 255]
+fn none_held() -> [bool; OBJECTS]
     ensures { NoneHeld result }
 {
-    [false; 255]
+    [false; OBJECTS]
 }
 
 // No memory for the index: the chip comes back.

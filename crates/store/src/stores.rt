@@ -4,6 +4,7 @@ ghost use Rattle.scan.specs.Indexes.{Knows};
 ghost use Rattle.store.specs.Running.{StandsSo, OpenPresent};
 
 use flash::Chip;
+use rules::OBJECTS;
 use scan::Index;
 
 // A chip; while the store runs, what is known of it; and which files are open. A stopped store keeps its index, since attach
@@ -13,7 +14,7 @@ use scan::Index;
 pub struct Store<C: Chip> {
     pub(crate) chip: C,
     pub(crate) index: Index,
-    pub(crate) held: [bool; 255],
+    pub(crate) held: [bool; OBJECTS],
     pub(crate) running: bool,
     ghost known: { running ≡ true → Knows (view_of (C.Chip.model chip)) index },
     ghost stands: { running ≡ true → ∥ StandsSo (C.Chip.model chip) index ∥₁ },

@@ -42,6 +42,7 @@ fn write_new(rt: &HostRuntime, path: &str, bytes: &[u8]) -> io::Result<()> {
     file.write_all(bytes)
 }
 
+// The two numbers of 8 bits are those of the command, handed on.
 fn create_file<'a>(
     rt: &HostRuntime,
     path: &'a str,

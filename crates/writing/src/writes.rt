@@ -4,6 +4,9 @@ use crate::notes::{note_erase, note_program};
 use flash::{Chip, Fault, Place, Purpose, Record};
 use scan::Index;
 
+// Chip and index stay two parameters, also in `cleaning`: a struct of both would hold two `&mut`, and could promise nothing
+// of them, since after a failure the index no longer tells of the chip.
+
 // Programs a record, and notes it in the index.
 pub fn program<C: Chip>(
     chip: &mut C,

@@ -1,5 +1,5 @@
 use crate::tests::chips::{BLANK, CUT, HEAD, MARK, MOST, raw, tag, verdict};
-use flash::{Place, Sizes};
+use flash::Place;
 use scan::Refusal;
 use std::process::Abort;
 use std::test::Fail;
@@ -79,11 +79,6 @@ const BROKEN: [Case; 39] = [
     (MOST, LOW, 0, 1, 1),
 ];
 
-const SIZES: Sizes = Sizes {
-    blocks: 3,
-    chunks: 2,
-};
-
 // What mount answers on a chip of three blocks of two that has this record alone.
 fn alone(
     rt: &(impl Abort + AllocGlobal),
@@ -92,7 +87,8 @@ fn alone(
 ) -> Result<Result<(), Refusal>, Fail> {
     let (first, second, third, serial, byte) = case;
     let mut rows = [BLANK; 6];
-    let row = SIZES.row(place);
+    // written out, as the numbers in `chips` are
+    let row = place.block as usize * 2 + place.chunk as usize;
     assert!(rt; row < 6);
     rows[row] = raw(tag(first, second, third, serial), byte);
     verdict(rt, 3, 2, &rows)
