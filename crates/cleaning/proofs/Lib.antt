@@ -1,0 +1,11 @@
+pub mod Acts
+pub mod Unclosed
+pub mod Chosen
+pub mod Playing
+pub mod Copying
+pub mod Marks
+pub mod Reading
+pub mod Spots
+pub mod Emptying
+pub mod Adding
+pub mod Bounded

@@ -1,0 +1,25 @@
+use Rattle.std.proofs.lemmas.Result.{err_from_is_err_and}
+use Rattle.cleaning.proofs.Emptying.{copies-take, copy-breaks, block-there, emptied, erase-breaks}
+use Rattle.cleaning.proofs.cleanings.empty.Goals as goal
+
+pub returns-in_err-copies-clause-played : goal.returns-in_err-copies-clause-played
+returns-in_err-copies-clause-played g c = λ cl t takes.
+    let s = g.C.Chip.model c.args.chip.now in
+    let x = c.args.index.now in
+    let p = err_from_is_err_and c.from_residual.result c.from_residual.ensures.1 in
+    rw (p.1, p.2) (copy-breaks s x c.args.block takes _ _ _ (c.in_err-copies.ensures.played cl t (copies-take s x c.args.block takes)))
+
+pub returns-in_err-erase-clause-played : goal.returns-in_err-erase-clause-played
+returns-in_err-erase-clause-played g c = λ cl t takes.
+    let s = g.C.Chip.model c.args.chip.now in
+    let x = c.args.index.now in
+    let d = c.in_ok-copies.ensures.played cl t (copies-take s x c.args.block takes) in
+    let p = err_from_is_err_and c.from_residual-in_err-erase.result c.from_residual-in_err-erase.ensures.1 in
+    rw (p.1, p.2) (erase-breaks s x c.args.block takes _ _ _ d _ _ _ (c.in_err-erase.ensures d.0.tells (block-there s x c.args.block takes _ _ _ d)))
+
+pub returns-clause-played : goal.returns-clause-played
+returns-clause-played g c = λ cl t takes.
+    let s = g.C.Chip.model c.args.chip.now in
+    let x = c.args.index.now in
+    let d = c.in_ok-copies.ensures.played cl t (copies-take s x c.args.block takes) in
+    emptied s x c.args.block takes _ _ _ d _ _ (c.in_ok-erase.ensures d.0.tells (block-there s x c.args.block takes _ _ _ d))
