@@ -1,20 +1,18 @@
 -- Every index tells of some contents; so the block to clean is one of its blocks. Assumes nothing.
-use Rattle.std.proofs.Common.{◌≡◌, ℕ, zero, suc, ◌+◌, ◌*◌, ◌^◌, ◌<◌, ◌≤◌, List, [], ◌∷◌, ◌++◌, length, get_or, take, drop, map, vec_items, Some, Option, sym, refl, ap, ◌∙◌, mul-le-mul_right, arith, length-take-le, length-drop}
+use Rattle.std.proofs.Common.{◌≡◌, ℕ, zero, suc, ◌*◌, ◌^◌, ◌<◌, List, [], ◌∷◌, ◌++◌, length, get_or, take, drop, vec_items, Some, sym, refl, ap, ◌∙◌, arith, length-take-le, length-drop}
 use Rattle.std.proofs.lemmas.List.{length-map, length-take, take-append-drop}
-use Rattle.flash.specs.declared.chunks.Chunk.{Chunk}
 use Rattle.flash.specs.declared.chunks.Look.{Look}
 use Rattle.flash.specs.declared.chunks.Look.TheVariants.{Blank, Damaged, Record}
-use Rattle.flash.specs.Chunks.{look_of}
 use Rattle.rules.specs.Places.{Flash, to_clean}
 use Rattle.rules.proofs.Cleaning.{closed_in}
+use Rattle.rules.proofs.Placing.{taken_is}
 use Rattle.tags.specs.Bare.{bare_of, bares}
 use Rattle.table.specs.Rows.{blocks_of}
 use Rattle.scan.specs.declared.indexes.Index.{Index}
-use Rattle.scan.specs.Flat.{flat, looks, looks_of}
+use Rattle.scan.specs.Flat.{flat, looks}
 use Rattle.scan.specs.Indexes.{looks_in, stands_in}
 use Rattle.places.specs.declared.victims.Victim.{Victim}
 use Rattle.places.specs.Places.{Told, blocks_in}
-use Rattle.cleaning.proofs.Emptying.{is-closed}
 
 looks-bares : (ls : List Look) → looks (bares ls) ≡ ls
 looks-bares [] = refl
@@ -59,6 +57,6 @@ module _ (x : Index) where
   pub block-fits : (w : Victim) → ((f : Flash) → Told f x → Some (w.block, w.load) ≡ to_clean f) → w.block < 2 ^ 32
   block-fits w h =
       let f : Flash = record { blocks = blocks_in x; stand = stands_in x } in
-      let l = (closed_in (stands_in x) w.block (is-closed f w (h f told-bare))).0 in
+      let l = (closed_in (stands_in x) w.block (taken_is f w.block w.load (sym (h f told-bare))).closed).0 in
       let e = x.few in
       omega (arith, length-take x.sizes.blocks (vec_items x.standings))

@@ -1,11 +1,11 @@
 pub mod Acts
-pub mod Unclosed
-pub mod Chosen
 pub mod Playing
-pub mod Copying
+pub mod Unclosed
+pub mod Spots
+pub mod Chosen
 pub mod Marks
 pub mod Reading
-pub mod Spots
+pub mod Copying
 pub mod Emptying
-pub mod Adding
 pub mod Bounded
+pub mod Adding

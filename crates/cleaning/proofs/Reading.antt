@@ -1,35 +1,25 @@
 -- The record of a chunk, by what the index tells and by a fetch. Assumes nothing.
-use Rattle.std.proofs.Common.{◌≡◌, ℕ, ◌+◌, ◌*◌, ◌<◌, ◌≤◌, true, List, [], length, get_or, Some, None, Ok, Err, Option, Result, ◌⊎◌, inl, inr, sym, refl, ap, ◌∙◌, subst, mul-le-mul_right, arith}
+use Rattle.std.proofs.Common.{◌≡◌, ℕ, ◌+◌, ◌*◌, List, get_or, Some, inl, inr, sym, ap, ◌∙◌, arith}
 use Rattle.std.proofs.lemmas.Bool.{both_ways}
-use Rattle.flash.specs.declared.chunks.Chunk.{Chunk}
-use Rattle.flash.specs.declared.chunks.Chunk.TheVariants.{Blank, Damaged, Holds}
-use Rattle.flash.specs.declared.chunks.Look.{Look}
+use Rattle.flash.specs.declared.chunks.Chunk.TheVariants.{Holds}
 use Rattle.flash.specs.declared.chunks.Look.TheVariants.{Blank as blank_l, Record as record_l}
 use Rattle.flash.specs.declared.chunks.Place.{Place}
 use Rattle.flash.specs.declared.chunks.Record.{Record}
 use Rattle.flash.specs.declared.chunks.Tag.{Tag}
 use Rattle.flash.specs.declared.faults.Fault.{Fault}
 use Rattle.flash.specs.declared.faults.Fault.TheVariants.{Off, NoSuchPlace, NotBlank, SupplyFailed, NoRecord}
-use Rattle.flash.specs.Blocks.{chunk_at}
-use Rattle.flash.specs.Chunks.{look_of, tag_in}
-use Rattle.flash.specs.Model.{State, blocks_of}
-use Rattle.flash.specs.Reads.{NotFetched, FetchDone, Outside, Within}
+use Rattle.flash.specs.Chunks.{look_of}
+use Rattle.flash.specs.Model.{State}
+use Rattle.flash.specs.Reads.{NotFetched, FetchDone}
 use Rattle.flash.proofs.Views.{cell_at}
 use Rattle.scan.specs.declared.indexes.Index.{Index}
 use Rattle.scan.specs.Indexes.{looks_in}
 use Rattle.writing.specs.Writing.{Tells}
 use Rattle.cleaning.specs.Steps.{HeldAt}
-use Rattle.cleaning.proofs.Marks.{looks-long, row-tells}
+use Rattle.cleaning.proofs.Marks.{row-tells}
 
 module _ (s : State) (x : Index) (t : Tells s x) (q : Place) (r : Record) (h : HeldAt s q r) where
-  -- its row is there, and tells of the record
-  pub row-there : q.block * x.sizes.chunks + q.chunk < length (looks_in x)
-  row-there =
-      let m : (q.block + 1) * s.p ≤ s.n * s.p = mul-le-mul_right s.p (let k = h.block in omega arith) in
-      let e : q.block * x.sizes.chunks ≡ q.block * s.p = ap (λ (p : ℕ). q.block * p) t.chunks in
-      let k = h.chunk in
-      omega (arith, looks-long s x t)
-
+  -- its row tells of the record
   pub row-record : get_or (looks_in x) (q.block * x.sizes.chunks + q.chunk) blank_l ≡ record_l r.tag
   row-record =
       ap (λ (p : ℕ). get_or (looks_in x) (q.block * p + q.chunk) blank_l) t.chunks

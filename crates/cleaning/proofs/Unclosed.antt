@@ -1,15 +1,13 @@
 -- A place for a record lies in a block that is not closed; so a closed block stays as it is while records are copied. Assumes nothing.
-use Rattle.std.proofs.Common.{◌≡◌, ℕ, ◌<◌, Bool, true, false, cond, leb, List, [], Some, None, Option, length, get_or, set, sym, refl, ap, ◌∙◌, subst, arith, get_or-set_other}
+use Rattle.std.proofs.Common.{◌≡◌, ℕ, ◌<◌, Bool, true, false, cond, leb, [], Some, None, Option, length, get_or, sym, refl, ap, ◌∙◌, subst, get_or-set_other}
 use Rattle.std.proofs.lemmas.Bool.{both_ways}
 use Rattle.flash.specs.declared.chunks.Record.{Record}
-use Rattle.flash.specs.declared.chunks.Chunk.{Chunk}
 use Rattle.rules.specs.declared.standings.Standing.{Standing}
-use Rattle.rules.specs.declared.standings.Standing.TheVariants.{Blank as blank_s, Open as open_s, Closed as closed_s}
+use Rattle.rules.specs.declared.standings.Standing.TheVariants.{Blank as blank_s, Closed as closed_s}
 use Rattle.rules.specs.Lists.{first_where, count, or_else}
 use Rattle.rules.specs.Records.{is_blank}
 use Rattle.rules.specs.Places.{Flash, is_blank_s, is_open_s, at_block, blank_in, start_of, open_place, blank_place, add_place, copy_place, copy_at, runs, programmed}
-use Rattle.rules.proofs.Cleaning.{found_at, closed_in}
-use Rattle.rules.proofs.Placing.{some-none}
+use Rattle.rules.proofs.Cleaning.{found_at}
 
 -- a place, if there is one, lies in a block that there is, and that is not closed
 abbrev pub Unclosed : Flash → Option (ℕ × ℕ) → Type 0

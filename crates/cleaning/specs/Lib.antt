@@ -1,3 +1,3 @@
-pub mod Steps
 pub mod Cleaning
 pub mod Once
+pub mod Steps

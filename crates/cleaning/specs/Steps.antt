@@ -1,5 +1,5 @@
 -- The steps of a cleaning. Only private functions cite these. Assumes nothing.
-use Rattle.std.specs.Prelude.{◌≡◌, ℕ, ◌<◌, Bool, true, false, List, [], ◌∷◌, ◌++◌, Some, None, Ok, Err, Option, Result, slice_index_or}
+use Rattle.std.specs.Prelude.{◌≡◌, ℕ, ◌<◌, Bool, false, List, [], ◌∷◌, ◌++◌, Some, Ok, Err, Option, Result, slice_index_or}
 use Rattle.flash.specs.declared.chunks.Chunk.TheVariants.{Holds}
 use Rattle.flash.specs.declared.chunks.Place.{Place}
 use Rattle.flash.specs.declared.chunks.Record.{Record}
@@ -32,26 +32,26 @@ TagKnown x q v = (s : State) (r : Record) → Tells s x → HeldAt s q r → v �
 abbrev pub RecordRead : State → Index → Place → Result (Option Record) Fault → Type 0
 RecordRead s x q v = (r : Record) → Tells s x → HeldAt s q r → v ≡ Ok (Some r)
 
--- acts played, with as many programs among them
-abbrev pub Counted : State → Index → List Act → Result ℕ Fault → State → Index → Type 0
-Counted s x acts (Ok n) t y = AllDone s x acts t y × ((counts acts).0 ≡ n)
-Counted s x acts (Err f) t y = BrokenAt s x acts f t y
+-- acts done, with as many programs and erases among them; or broken off
+abbrev pub Counted : State → Index → List Act → ℕ → Result ℕ Fault → State → Index → Type 0
+Counted s x acts erases (Ok programs) t y = AllDone s x acts t y × (counts acts ≡ (programs, erases))
+Counted s x acts erases (Err f) t y = BrokenAt s x acts f t y
 
--- the same, where the index tells of the chip and the chip takes the acts
-abbrev pub PlayedIf : State → Index → List Act → Result ℕ Fault → State → Index → Type 0
-PlayedIf s x acts v t y = Tells s x → TakesAll s.n s.p (flash_of s x) acts → Counted s x acts v t y
+-- so it is where the index tells of the chip, and the chip takes the acts
+abbrev pub PlayedIf : State → Index → List Act → ℕ → Result ℕ Fault → State → Index → Type 0
+PlayedIf s x acts erases v t y = Tells s x → TakesAll s.n s.p (flash_of s x) acts → Counted s x acts erases v t y
 
 -- a record copied to the place for it
 abbrev pub CopyPlayed : State → Index → Place → Result ℕ Fault → State → Index → Type 0
-CopyPlayed s x from v t y = (r : Record) → HeldAt s from r → PlayedIf s x (copy_at r (copy_place (flash_of s x))) v t y
+CopyPlayed s x from v t y = (r : Record) → HeldAt s from r → PlayedIf s x (copy_at r (copy_place (flash_of s x))) 0 v t y
 
--- the records that make a block's load copied
+-- the records copied that make a block's load
 abbrev pub load_copies : State → Index → ℕ → List Act
 load_copies s x b = copies (flash_of s x) (load_list (blocks_of s) b)
 
 abbrev pub LoadPlayed : State → Index → ℕ → Result ℕ Fault → State → Index → Type 0
-LoadPlayed s x b v t y = slice_index_or (stands_in x) b blank_s ≡ closed_s → PlayedIf s x (load_copies s x b) v t y
+LoadPlayed s x b v t y = slice_index_or (stands_in x) b blank_s ≡ closed_s → PlayedIf s x (load_copies s x b) 0 v t y
 
 -- and then the block erased
-abbrev pub EmptyPlayed : State → Index → ℕ → Result ℕ Fault → State → Index → Type 0
-EmptyPlayed s x b v t y = slice_index_or (stands_in x) b blank_s ≡ closed_s → PlayedIf s x (load_copies s x b ++ (erasing b ∷ [])) v t y
+abbrev pub BlockPlayed : State → Index → ℕ → Result ℕ Fault → State → Index → Type 0
+BlockPlayed s x b v t y = slice_index_or (stands_in x) b blank_s ≡ closed_s → PlayedIf s x (load_copies s x b ++ (erasing b ∷ [])) 1 v t y

@@ -1,14 +1,20 @@
 ghost use Rattle.cleaning.specs.Cleaning.{AddPlayed};
 
 use crate::cleanings::clean_once;
-use crate::counts::Counts;
 use flash::{Chip, Fault, Purpose, Record};
 use places::add_place;
 use scan::Index;
 use writing::program;
 
-// How often one cleans at most. Twice is enough; the rules' definition counts to 9 all the same.
+// How often one cleans at most. Twice is enough; the rules count to 9 all the same.
 const CLEANINGS: usize = 9;
+
+// How many chunks were programmed and blocks erased.
+#[derive(Clone, Copy, PartialEq, Eq, Default, Debug)]
+pub struct Counts {
+    pub programs: usize,
+    pub erases: usize,
+}
 
 // Adds a record: while there is no place for it, one cleans. Answers how many chunks were programmed and blocks erased.
 pub fn add<C: Chip>(chip: &mut C, index: &mut Index, record: &Record) -> Result<Counts, Fault>

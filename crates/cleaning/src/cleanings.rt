@@ -1,6 +1,6 @@
 ghost use Rattle.std.specs.Prelude.{◌≤◌, IfOk};
 ghost use Rattle.cleaning.specs.Cleaning.{CleanPlayed};
-ghost use Rattle.cleaning.specs.Steps.{EmptyPlayed};
+ghost use Rattle.cleaning.specs.Steps.{BlockPlayed};
 ghost use Rattle.cleaning.specs.Once.{OncePlayed, FewCopies};
 
 use crate::copies::copy_load;
@@ -17,8 +17,8 @@ pub(crate) struct Cleaned {
 }
 
 // Copies a block's load, erases the block, and answers how many records were copied.
-fn empty<C: Chip>(chip: &mut C, index: &mut Index, block: u32) -> Result<usize, Fault>
-    ensures played { EmptyPlayed (C.Chip.model chip.old) index.old block result (C.Chip.model chip.new) index.new }
+fn clean_block<C: Chip>(chip: &mut C, index: &mut Index, block: u32) -> Result<usize, Fault>
+    ensures played { BlockPlayed (C.Chip.model chip.old) index.old block result (C.Chip.model chip.new) index.new }
     ensures few { IfOk result (λ n. n ≤ 2048) }
 {
     let copies = copy_load(chip, index, block)?;
@@ -26,7 +26,7 @@ fn empty<C: Chip>(chip: &mut C, index: &mut Index, block: u32) -> Result<usize, 
     Ok(copies)
 }
 
-// Cleans once, and answers what was done; none where no block is closed.
+// Cleans once, and answers which block that was; none where no block is closed.
 pub(crate) fn clean_once<C: Chip>(chip: &mut C, index: &mut Index) -> Result<Option<Cleaned>, Fault>
     ensures played { OncePlayed (C.Chip.model chip.old) index.old result (C.Chip.model chip.new) index.new }
     ensures few { IfOk result FewCopies }
@@ -34,7 +34,7 @@ pub(crate) fn clean_once<C: Chip>(chip: &mut C, index: &mut Index) -> Result<Opt
     let Some(victim) = to_clean(index) else {
         return Ok(None);
     };
-    let copies = empty(chip, index, victim.block as u32)?;
+    let copies = clean_block(chip, index, victim.block as u32)?;
     Ok(Some(Cleaned { victim, copies }))
 }
 

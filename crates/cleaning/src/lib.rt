@@ -5,9 +5,7 @@
 pub mod adds;
 pub mod cleanings;
 mod copies;
-pub mod counts;
 mod loads;
 
-pub use adds::add;
+pub use adds::{Counts, add};
 pub use cleanings::clean;
-pub use counts::Counts;

@@ -20,10 +20,10 @@ returns-in_err-copies-clause-played g c = λ t takes.
     let s = g.C.Chip.model c.args.chip.now in
     let x = c.args.index.now in
     let p = err_from_is_err_and c.from_residual.result c.from_residual.ensures.1 in
-    rw (p.1, p.2) (once-broken s x t c.in-Some.victim (c.in-Some.ensures (flash_of s x) (told s x t)) takes _ _ _ c.in_err-copies.ensures.played)
+    rw (p.1, p.2) (once-broken s x c.in-Some.victim (c.in-Some.ensures (flash_of s x) (told s x t)) t takes _ _ _ c.in_err-copies.ensures.played)
 
 pub returns-clause-played : goal.returns-clause-played
 returns-clause-played g c = λ t takes.
     let s = g.C.Chip.model c.args.chip.now in
     let x = c.args.index.now in
-    once-done s x t c.in-Some.victim (c.in-Some.ensures (flash_of s x) (told s x t)) takes _ _ _ c.in_ok-copies.ensures.played
+    once-done s x c.in-Some.victim (c.in-Some.ensures (flash_of s x) (told s x t)) t takes _ _ _ c.in_ok-copies.ensures.played

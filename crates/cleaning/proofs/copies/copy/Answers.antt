@@ -5,7 +5,10 @@ use Rattle.cleaning.proofs.Spots.{told, copy-none, copy-done, copy-broken}
 use Rattle.cleaning.proofs.copies.copy.Goals as goal
 
 pub returns-in_default-copy_place-clause-played : goal.returns-in_default-copy_place-clause-played
-returns-in_default-copy_place-clause-played g c = λ r h t takes. copy-none (g.C.Chip.model c.args.chip.now) c.args.index.now t c.copy_place.result c.in_default-copy_place.is c.copy_place.ensures r
+returns-in_default-copy_place-clause-played g c = λ r h t takes.
+    let s = g.C.Chip.model c.args.chip.now in
+    let x = c.args.index.now in
+    copy-none s x t r (c.in_default-copy_place.ensures (flash_of s x) (told s x t))
 
 pub returns-in_err-program-clause-played : goal.returns-in_err-program-clause-played
 returns-in_err-program-clause-played g c = λ r h t takes.

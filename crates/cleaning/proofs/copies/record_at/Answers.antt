@@ -1,4 +1,4 @@
-use Rattle.std.proofs.Common.{◌≡◌, Some, Ok, ap, sym, ◌∙◌}
+use Rattle.std.proofs.Common.{Some, Ok, ap}
 use Rattle.cleaning.proofs.Reading.{fetch-granted, same-record}
 use Rattle.cleaning.proofs.copies.record_at.Goals as goal
 

@@ -1,4 +1,4 @@
-use Rattle.std.proofs.Common.{arith, ◌<◌, ◌≡◌, length}
+use Rattle.std.proofs.Common.{arith}
 use Rattle.cleaning.proofs.Marks.{all_marked}
 use Rattle.cleaning.proofs.loads.mark_load.Goals as goal
 
