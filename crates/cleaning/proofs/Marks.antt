@@ -35,18 +35,16 @@ module _ (s : State) (x : Index) (t : Tells s x) where
   mirrors : Mirrors s.n s.p (blocks_of s) (looks_in x)
   mirrors = record { blocks_long = blocks-count s; block_long = block-length s; looks_long = looks-long; each = row-tells }
 
-  pub marked : (b c : ℕ) → load_at (table_blocks s.p s.n (bares (looks_in x))) b c ≡ load_at (blocks_of s) b c
-  marked b c =
-      ap (λ (bs : List (List Chunk)). load_at bs b c) (table-mirrors s.n s.p (blocks_of s) (looks_in x) mirrors).0
-      ∙ (blocks-alike (blocks_of s)).row_same b c
+-- by the table or by the contents
+pub marked : (s : State) (b c : ℕ) (x : Index) → Tells s x → load_at (blocks_of s) b c ≡ load_at (table_blocks x.sizes.chunks x.sizes.blocks (bares (looks_in x))) b c
+marked s b c x t =
+    sym (ap (λ (p : ℕ). load_at (table_blocks p x.sizes.blocks (bares (looks_in x))) b c) t.chunks
+    ∙ ap (λ (n : ℕ). load_at (table_blocks s.p n (bares (looks_in x))) b c) t.blocks
+    ∙ ap (λ (bs : List (List Chunk)). load_at bs b c) (table-mirrors s.n s.p (blocks_of s) (looks_in x) (mirrors s x t)).0
+    ∙ (blocks-alike (blocks_of s)).row_same b c)
 
-  pub marked-by : (b c : ℕ) (looks : List Look) (r : Bool) → looks ≡ looks_in x → b < s.n → c < x.sizes.chunks
-      → ((n : ℕ) → length looks ≡ n * x.sizes.chunks → b < n → c < x.sizes.chunks → r ≡ load_at (table_blocks x.sizes.chunks n (bares looks)) b c) → r ≡ load_at (blocks_of s) b c
-  marked-by b c looks r e hb hc f =
-      f s.n (ap length e ∙ looks-long ∙ ap (λ (p : ℕ). s.n * p) (sym t.chunks)) hb hc
-      ∙ ap (λ (ls : List Look). load_at (table_blocks x.sizes.chunks s.n (bares ls)) b c) e
-      ∙ ap (λ (p : ℕ). load_at (table_blocks p s.n (bares (looks_in x))) b c) t.chunks
-      ∙ marked b c
+pub long_enough : (x : Index) (s : State) → Tells s x → length (looks_in x) ≡ x.sizes.blocks * x.sizes.chunks
+long_enough x s t = looks-long s x t ∙ ap (λ (n : ℕ). n * s.p) (sym t.blocks) ∙ ap (λ (p : ℕ). x.sizes.blocks * p) (sym t.chunks)
 
 -- a chunk that is not there makes no load
 pub unmarked : (s : State) (b c : ℕ) → b < s.n → s.p ≤ c → load_at (blocks_of s) b c ≡ false

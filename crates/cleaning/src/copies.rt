@@ -9,6 +9,7 @@ use scan::Index;
 use writing::program;
 
 // The four numbers of a chunk's record, as far as the index tells of one.
+#[tactic(auto, using(crate::proofs::Reading::tag_told))]
 fn tag_at(index: &Index, at: Place) -> Option<Tag>
     ensures { TagKnown index.now at result }
 {
@@ -16,6 +17,7 @@ fn tag_at(index: &Index, at: Place) -> Option<Tag>
 }
 
 // The record of a chunk, if it holds one.
+#[tactic(auto, using(crate::proofs::Reading::fetch_granted, crate::proofs::Reading::same_record))]
 fn record_at<C: Chip>(chip: &C, index: &Index, at: Place) -> Result<Option<Record>, Fault>
     ensures { RecordRead (C.Chip.model chip.now) index.now at result }
 {
