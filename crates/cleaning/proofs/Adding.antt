@@ -15,7 +15,7 @@ use Rattle.cleaning.specs.declared.cleanings.Cleaned.{Cleaned}
 use Rattle.cleaning.specs.Cleaning.{acts_to_add}
 use Rattle.cleaning.specs.Once.{counts_of, CleanedOnce, OncePlayed}
 use Rattle.cleaning.proofs.Playing.{Underway, nothing-yet, all-done, takes-now, breaks-now, goes-on}
-use Rattle.cleaning.proofs.Spots.{not-closed}
+use Rattle.cleaning.proofs.Spots.{not_closed}
 
 -- a record is being added by these acts; one may clean k times yet
 pub record AddedTo (s : State) (x : Index) (r : Record) (whole : List Act) (k a e : ℕ) (t : State) (y : Index) : Type 0 where
@@ -44,11 +44,11 @@ module _ {s : State} {x : Index} {r : Record} {whole : List Act} {k a e : ℕ} {
 
     pub place-done : {u : State} {z : Index} → (Tells t y → Takes t.n t.p (blocks_of t) (adding q.block q.chunk r) → (get_or (stands_in y) q.block closed_s ≡ closed_s → ⊥) → AllDone t y (adding q.block q.chunk r ∷ []) u z)
         → AllDone s x whole u z × (counts whole ≡ (a + 1, e))
-    place-done f = simp add-zero at (all-done (goes-on h.on now [] last (1, 0) (f h.on.all.tells (takes-now h.on now [] last takes).0 (not-closed t y q place)) refl))
+    place-done f = simp add-zero at (all-done (goes-on h.on now [] last (1, 0) (f h.on.all.tells (takes-now h.on now [] last takes).0 (not_closed t y q place)) refl))
 
     pub place-broken : {b : Fault} {u : State} {z : Index} → (Tells t y → Takes t.n t.p (blocks_of t) (adding q.block q.chunk r) → (get_or (stands_in y) q.block closed_s ≡ closed_s → ⊥) → BrokenAt t y (adding q.block q.chunk r ∷ []) b u z)
         → BrokenAt s x whole b u z
-    place-broken f = breaks-now h.on now [] last (f h.on.all.tells (takes-now h.on now [] last takes).0 (not-closed t y q place))
+    place-broken f = breaks-now h.on now [] last (f h.on.all.tells (takes-now h.on now [] last takes).0 (not_closed t y q place))
 
   -- there is none; what a call of `clean_once` ensures
   module _ (place : None ≡ add_place (flash_of t y)) where

@@ -54,8 +54,8 @@ module _ (x : Index) where
     stands = refl;
   }
 
-  pub block-fits : (w : Victim) → ((f : Flash) → Told f x → Some (w.block, w.load) ≡ to_clean f) → w.block < 2 ^ 32
-  block-fits w h =
+  pub block_fits : (w : Victim) → ((f : Flash) → Told f x → Some (w.block, w.load) ≡ to_clean f) → w.block < 2 ^ 32
+  block_fits w h =
       let f : Flash = record { blocks = blocks_in x; stand = stands_in x } in
       let l = (closed_in (stands_in x) w.block (taken_is f w.block w.load (sym (h f told-bare))).closed).0 in
       let e = x.few in

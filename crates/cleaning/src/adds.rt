@@ -17,6 +17,7 @@ pub struct Counts {
 }
 
 // Adds a record: while there is no place for it, one cleans. Answers how many chunks were programmed and blocks erased.
+#[tactic(auto, using(crate::proofs::Adding::begun))]
 pub fn add<C: Chip>(chip: &mut C, index: &mut Index, record: &Record) -> Result<Counts, Fault>
     ensures { AddPlayed (C.Chip.model chip.old) index.old «record».now result (C.Chip.model chip.new) index.new }
 {

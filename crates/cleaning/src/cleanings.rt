@@ -27,6 +27,7 @@ fn clean_block<C: Chip>(chip: &mut C, index: &mut Index, block: u32) -> Result<u
 }
 
 // Cleans once, and answers which block that was; none where no block is closed.
+#[tactic(auto, using(crate::proofs::Bounded::block_fits))]
 pub(crate) fn clean_once<C: Chip>(chip: &mut C, index: &mut Index) -> Result<Option<Cleaned>, Fault>
     ensures played { OncePlayed (C.Chip.model chip.old) index.old result (C.Chip.model chip.new) index.new }
     ensures few { IfOk result FewCopies }

@@ -30,6 +30,7 @@ fn record_at<C: Chip>(chip: &C, index: &Index, at: Place) -> Result<Option<Recor
 }
 
 // Copies a chunk's record to the place for it, and answers how many records that were: none where there is no place.
+#[tactic(auto, using(crate::proofs::Spots::told, crate::proofs::Spots::copy_none))]
 fn copy<C: Chip>(chip: &mut C, index: &mut Index, from: Place) -> Result<usize, Fault>
     ensures played { CopyPlayed (C.Chip.model chip.old) index.old from result (C.Chip.model chip.new) index.new }
     ensures one { IfOk result (λ n. n ≤ 1) }

@@ -21,6 +21,7 @@ fn is_marked(index: &Index, block: usize, chunk: usize) -> bool
 
 // Which chunks make the load of a block. This is settled before the first of them is copied, since a copy is one more
 // record that stands elsewhere.
+#[tactic(auto, using(crate::proofs::Marks::all_marked))]
 pub(crate) fn mark_load(index: &Index, block: usize) -> [bool; MOST_CHUNKS]
     ensures { MarksLoad index.now block result }
 {

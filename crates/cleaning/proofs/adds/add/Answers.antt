@@ -1,15 +1,10 @@
 use Rattle.std.proofs.Common.{suc, ◌-◌, arith}
 use Rattle.std.proofs.lemmas.Result.{err_from_is_err_and}
 use Rattle.writing.specs.Writing.{flash_of}
-use Rattle.cleaning.proofs.Adding.{begun, ended, place-done, place-broken, one-cleaned, none-cleaned, cleaning-broken}
+use Rattle.cleaning.proofs.Adding.{ended, place-done, place-broken, one-cleaned, none-cleaned, cleaning-broken}
 use Rattle.cleaning.proofs.Spots.{told}
 use Rattle.cleaning.proofs.adds.add.Goals as goal
 use Rattle.cleaning.proofs.adds.add.Goals.{in-Some-2, in_default-2}
-
-pub loop-init : goal.loop-init
-loop-init g c =
-    let z = c.default-counts.ensures in
-    record { programs = omega arith; erases = omega arith; done = λ t takes left e. begun _ _ c.args.record.now left _ _ t (omega arith) z.0 z.1 }
 
 pub returns-in_err-program : goal.returns-in_err-program
 returns-in_err-program g c = λ t takes.

@@ -1,13 +1,8 @@
-use Rattle.std.proofs.Common.{arith}
 use Rattle.std.proofs.lemmas.Result.{err_from_is_err_and}
 use Rattle.writing.specs.Writing.{flash_of}
-use Rattle.cleaning.proofs.Bounded.{block-fits}
 use Rattle.cleaning.proofs.Emptying.{once-none, once-done, once-broken}
 use Rattle.cleaning.proofs.Spots.{told}
 use Rattle.cleaning.proofs.cleanings.clean_once.Goals as goal
-
-pub overflow_cast-victim : goal.overflow_cast-victim
-overflow_cast-victim g c = omega (arith, block-fits c.args.index.now c.in-Some.victim c.in-Some.ensures)
 
 pub returns-in_default-clause-played : goal.returns-in_default-clause-played
 returns-in_default-clause-played g c = λ t takes.
