@@ -1,37 +1,35 @@
 -- A cleaning: a block's load copied, and the block erased. Assumes nothing.
-use Rattle.std.proofs.Common.{◌≡◌, ℕ, ◌<◌, List, [], ◌∷◌, ◌++◌, get_or, Some, None, Ok, Err, sym, refl, ap, subst, add-zero}
+use Rattle.std.proofs.Common.{◌≡◌, ℕ, ◌<◌, not, List, [], ◌∷◌, ◌++◌, get_or, Some, None, Ok, Err, sym, refl, ap, subst, arith}
 use Rattle.flash.specs.declared.faults.Fault.{Fault}
 use Rattle.flash.specs.Model.{State}
 use Rattle.rules.specs.declared.standings.Standing.TheVariants.{Blank as blank_s, Closed as closed_s}
-use Rattle.rules.specs.Places.{Act, erasing, to_clean, clean, clean_block, counts}
+use Rattle.rules.specs.Lists.{count}
+use Rattle.rules.specs.Places.{Act, erasing, is_program, to_clean, clean, clean_block, counts}
 use Rattle.rules.specs.Runs.{TakesAll}
-use Rattle.rules.proofs.Placing.{taken_is}
+use Rattle.rules.proofs.Placing.{taken_is, count-append}
 use Rattle.scan.specs.declared.indexes.Index.{Index}
 use Rattle.scan.specs.Indexes.{stands_in}
 use Rattle.places.specs.declared.victims.Victim.{Victim}
 use Rattle.writing.specs.Writing.{flash_of, Tells, AllDone, BrokenAt}
 use Rattle.cleaning.specs.Steps.{Counted, BlockPlayed, load_copies}
-use Rattle.cleaning.proofs.Acts.{takes-first}
-use Rattle.cleaning.proofs.Playing.{Underway, none-done, all-done, takes-now, breaks-now, goes-on}
+use Rattle.cleaning.proofs.Acts.{takes-first, takes-rest}
+use Rattle.cleaning.proofs.Playing.{none-done}
 
 -- a block and the acts that clean it
 module _ (s : State) (x : Index) (v : ℕ) (takes : TakesAll s.n s.p (flash_of s x) (load_copies s x v ++ (erasing v ∷ []))) where
-  pub copies-take : TakesAll s.n s.p (flash_of s x) (load_copies s x v)
-  copies-take = takes-first s.n s.p (load_copies s x v) (erasing v ∷ []) (flash_of s x) takes
+  pub copies_take : TakesAll s.n s.p (flash_of s x) (load_copies s x v)
+  copies_take = takes-first s.n s.p (load_copies s x v) (erasing v ∷ []) (flash_of s x) takes
 
-  -- its load is copied
-  module _ {n : ℕ} {t : State} {y : Index} (d : AllDone s x (load_copies s x v) t y) (k : counts (load_copies s x v) ≡ (n, 0)) where
-    copied : Underway s x (load_copies s x v ++ (erasing v ∷ [])) (erasing v ∷ []) n 0 t y
-    copied = record { done = load_copies s x v; all = d; split = refl; counted = k }
+  pub block_there : (t : State) (y : Index) → AllDone s x (load_copies s x v) t y → v < t.n
+  block_there t y d = (let e = d.beside.same_n in let h = (takes-rest s.n s.p (load_copies s x v) (erasing v ∷ []) (flash_of s x) takes).0 in omega arith)
 
-    pub block-there : v < t.n
-    block-there = (takes-now copied (erasing v ∷ []) [] refl takes).0
-
-    pub erased : {u : State} {z : Index} → AllDone t y (erasing v ∷ []) u z → AllDone s x (load_copies s x v ++ (erasing v ∷ [])) u z × (counts (load_copies s x v ++ (erasing v ∷ [])) ≡ (n, 1))
-    erased e = simp add-zero at (all-done (goes-on copied (erasing v ∷ []) [] refl (0, 1) e refl))
-
-    pub erase-broken : {f : Fault} {u : State} {z : Index} → BrokenAt t y (erasing v ∷ []) f u z → BrokenAt s x (load_copies s x v ++ (erasing v ∷ [])) f u z
-    erase-broken b = breaks-now copied (erasing v ∷ []) [] refl b
+pub counts_on : (acts : List Act) (v n : ℕ) → counts acts ≡ (n, 0) → counts (acts ++ (erasing v ∷ [])) ≡ (n, 1)
+counts_on acts v n k =
+    let a : count is_program acts ≡ n = ap (λ (m : ℕ × ℕ). m.0) k in
+    let b : count (λ a. not (is_program a)) acts ≡ 0 = ap (λ (m : ℕ × ℕ). m.1) k in
+    let i : count is_program (acts ++ (erasing v ∷ [])) ≡ n = omega (arith, count-append is_program acts (erasing v ∷ [])) in
+    let o : count (λ a. not (is_program a)) (acts ++ (erasing v ∷ [])) ≡ 1 = omega (arith, count-append (λ (a : Act). not (is_program a)) acts (erasing v ∷ [])) in
+    λ j. (i j, o j)
 
 -- the block to clean is closed, and its acts are those of the cleaning
 module _ (s : State) (x : Index) (w : Victim) (e : Some (w.block, w.load) ≡ to_clean (flash_of s x)) where

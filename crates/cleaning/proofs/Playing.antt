@@ -19,15 +19,15 @@ beside-on a b = record { same_n = b.same_n ∙ a.same_n; same_p = b.same_p ∙ a
 
 -- first some acts, then more
 module _ {s t u : State} {x y z : Index} {acts more : List Act} (d : AllDone s x acts t y) where
-  pub done-on : AllDone t y more u z → AllDone s x (acts ++ more) u z
-  done-on e = record {
+  pub done_on : AllDone t y more u z → AllDone s x (acts ++ more) u z
+  done_on e = record {
     tells = e.tells;
     made = e.made ∙ ap (λ (f : Flash). runs f more) d.made ∙ sym (runs_append acts more (flash_of s x));
     beside = beside-on d.beside e.beside;
   }
 
-  pub broken-on : {f : Fault} → BrokenAt t y more f u z → BrokenAt s x (acts ++ more) f u z
-  broken-on e = record {
+  pub broken_on : {f : Fault} → BrokenAt t y more f u z → BrokenAt s x (acts ++ more) f u z
+  broken_on e = record {
     act = e.act;
     names = e.names;
     left = breaks-rest e.act (blocks_of u) acts more (flash_of s x) (subst (λ (g : Flash). Breaks g more e.act (blocks_of u)) d.made e.left);
@@ -36,8 +36,8 @@ module _ {s t u : State} {x y z : Index} {acts more : List Act} (d : AllDone s x
   }
 
 -- broken off, so is what goes on with more
-pub broken-more : {s t : State} {x y : Index} {acts : List Act} {f : Fault} (more : List Act) → BrokenAt s x acts f t y → BrokenAt s x (acts ++ more) f t y
-broken-more {s} {t} {x} {y} {acts} more e = record {
+pub broken_more : {s t : State} {x y : Index} {acts : List Act} {f : Fault} (more : List Act) → BrokenAt s x acts f t y → BrokenAt s x (acts ++ more) f t y
+broken_more {s} {t} {x} {y} {acts} more e = record {
   act = e.act;
   names = e.names;
   left = breaks-first e.act (blocks_of t) acts more (flash_of s x) e.left;
@@ -75,12 +75,12 @@ module _ {s : State} {x : Index} {whole rest : List Act} {a e : ℕ} {t : State}
       subst (λ (m : ℕ). TakesAll m t.p (flash_of t y) now) (sym h.all.beside.same_n) (subst (λ (m : ℕ). TakesAll s.n m (flash_of t y) now) (sym h.all.beside.same_p) c)
 
   pub breaks-now : {f : Fault} {u : State} {z : Index} → BrokenAt t y now f u z → BrokenAt s x whole f u z
-  breaks-now {f} {u} {z} b = subst (λ (acts : List Act). BrokenAt s x acts f u z) (sym front) (broken-more more (broken-on h.all b))
+  breaks-now {f} {u} {z} b = subst (λ (acts : List Act). BrokenAt s x acts f u z) (sym front) (broken_more more (broken_on h.all b))
 
   pub goes-on : {u : State} {z : Index} (n : ℕ × ℕ) → AllDone t y now u z → counts now ≡ n → Underway s x whole more (a + n.0) (e + n.1) u z
   goes-on n d k = record {
     done = h.done ++ now;
-    all = done-on h.all d;
+    all = done_on h.all d;
     split = front;
     counted =
         let i = count-append is_program h.done now ∙ (λ j. (h.counted j).0 + (k j).0) in

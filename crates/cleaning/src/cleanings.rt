@@ -17,6 +17,7 @@ pub(crate) struct Cleaned {
 }
 
 // Copies a block's load, erases the block, and answers how many records were copied.
+#[tactic(auto, using(crate::proofs::Emptying::copies_take, crate::proofs::Emptying::block_there, crate::proofs::Playing::broken_on, crate::proofs::Playing::broken_more))]
 fn clean_block<C: Chip>(chip: &mut C, index: &mut Index, block: u32) -> Result<usize, Fault>
     ensures played { BlockPlayed (C.Chip.model chip.old) index.old block result (C.Chip.model chip.new) index.new }
     ensures few { IfOk result (λ n. n ≤ 2048) }
