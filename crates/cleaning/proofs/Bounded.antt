@@ -12,6 +12,7 @@ use Rattle.scan.specs.declared.indexes.Index.{Index}
 use Rattle.scan.specs.Flat.{flat, looks}
 use Rattle.scan.specs.Indexes.{looks_in, stands_in}
 use Rattle.places.specs.declared.victims.Victim.{Victim}
+use Rattle.cleaning.proofs.Marks.{looks_long}
 use Rattle.places.specs.Places.{Told, blocks_in}
 
 looks-bares : (ls : List Look) → looks (bares ls) ≡ ls
@@ -40,11 +41,8 @@ module _ {A : Type 0} (p : ℕ) where
   whole (suc n) rows h = ap (λ (xs : List A). take p rows ++ xs) (whole n (drop p rows) (left n rows h)) ∙ take-append-drop p rows
 
 module _ (x : Index) where
-  looks-long : length (looks_in x) ≡ x.sizes.blocks * x.sizes.chunks
-  looks-long = length-take-le (x.sizes.blocks * x.sizes.chunks) (vec_items x.rows) (let a = x.places in let b = x.within in let c = x.rows.ok.0 in omega arith)
-
   bares-long : length (bares (looks_in x)) ≡ x.sizes.blocks * x.sizes.chunks
-  bares-long = length-map (looks_in x) bare_of ∙ looks-long
+  bares-long = length-map (looks_in x) bare_of ∙ looks_long x
 
   pub told-bare : Told (record { blocks = blocks_in x; stand = stands_in x }) x
   told-bare = record {

@@ -1,5 +1,5 @@
 -- The marks of a block's load, by an index that tells of its chip. Assumes nothing.
-use Rattle.std.proofs.Common.{◌≡◌, ℕ, ◌+◌, ◌*◌, ◌<◌, ◌≤◌, Bool, false, List, [], length, get_or, sym, ap, ◌∙◌, inl, inr, mul-le-mul_right, arith}
+use Rattle.std.proofs.Common.{◌≡◌, ℕ, ◌+◌, ◌*◌, ◌<◌, ◌≤◌, Bool, false, List, [], length, get_or, sym, ap, ◌∙◌, inl, inr, mul-le-mul_right, arith, vec_items, length-take-le}
 use Rattle.std.proofs.lemmas.Bool.{cases_lt}
 use lib.ListN.{get_or-eq_default}
 use Rattle.flash.specs.declared.chunks.Chunk.{Chunk}
@@ -18,13 +18,13 @@ use Rattle.table.proofs.BareBlocks.{blocks-alike, table-mirrors}
 use Rattle.scan.specs.declared.indexes.Index.{Index}
 use Rattle.scan.specs.Flat.{flat}
 use Rattle.scan.specs.Indexes.{looks_in}
-use Rattle.scan.proofs.Flat.{flat-long, flat-cell, looks_long, looks-at}
+use Rattle.scan.proofs.Flat.{flat-cell, looks-at}
 use Rattle.writing.specs.Writing.{Tells}
 
-module _ (s : State) (x : Index) (t : Tells s x) where
-  pub looks-long : length (looks_in x) ≡ s.n * s.p
-  looks-long = ap length t.mirror ∙ looks_long (flat (blocks_of s)) ∙ flat-long s
+pub looks_long : (x : Index) → length (looks_in x) ≡ x.sizes.blocks * x.sizes.chunks
+looks_long x = length-take-le (x.sizes.blocks * x.sizes.chunks) (vec_items x.rows) (let a = x.places in let b = x.within in let c = x.rows.ok.0 in omega arith)
 
+module _ (s : State) (x : Index) (t : Tells s x) where
   -- the row of a chunk
   pub row-tells : (b c : ℕ) → b < s.n → c < s.p → get_or (looks_in x) (b * s.p + c) blank_l ≡ look_of (chunk_at (blocks_of s) b c)
   row-tells b c hb hc =
@@ -33,7 +33,7 @@ module _ (s : State) (x : Index) (t : Tells s x) where
       ∙ ap look_of (flat-cell s b c hb hc ∙ sym (cell_at s b c hb hc))
 
   mirrors : Mirrors s.n s.p (blocks_of s) (looks_in x)
-  mirrors = record { blocks_long = blocks-count s; block_long = block-length s; looks_long = looks-long; each = row-tells }
+  mirrors = record { blocks_long = blocks-count s; block_long = block-length s; looks_long = looks_long x ∙ ap (λ (n : ℕ). n * x.sizes.chunks) t.blocks ∙ ap (λ (p : ℕ). s.n * p) t.chunks; each = row-tells }
 
 -- by the table or by the contents
 pub marked : (s : State) (b c : ℕ) (x : Index) → Tells s x → load_at (blocks_of s) b c ≡ load_at (table_blocks x.sizes.chunks x.sizes.blocks (bares (looks_in x))) b c
@@ -42,9 +42,6 @@ marked s b c x t =
     ∙ ap (λ (n : ℕ). load_at (table_blocks s.p n (bares (looks_in x))) b c) t.blocks
     ∙ ap (λ (bs : List (List Chunk)). load_at bs b c) (table-mirrors s.n s.p (blocks_of s) (looks_in x) (mirrors s x t)).0
     ∙ (blocks-alike (blocks_of s)).row_same b c)
-
-pub long_enough : (x : Index) (s : State) → Tells s x → length (looks_in x) ≡ x.sizes.blocks * x.sizes.chunks
-long_enough x s t = looks-long s x t ∙ ap (λ (n : ℕ). n * s.p) (sym t.blocks) ∙ ap (λ (p : ℕ). x.sizes.blocks * p) (sym t.chunks)
 
 -- a chunk that is not there makes no load
 pub unmarked : (s : State) (b c : ℕ) → b < s.n → s.p ≤ c → load_at (blocks_of s) b c ≡ false

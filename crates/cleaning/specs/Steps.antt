@@ -15,7 +15,7 @@ use Rattle.scan.specs.Indexes.{stands_in}
 use Rattle.table.specs.Loads.{load_at}
 use Rattle.writing.specs.Writing.{flash_of, Tells, AllDone, BrokenAt}
 
--- the chunks of a block that make its load
+-- the chunks that make the load of a block are marked
 abbrev pub MarksLoad : Index → ℕ → List Bool → Type 0
 MarksLoad x b marks = (s : State) → Tells s x → b < s.n → (c : ℕ) → slice_index_or marks c false ≡ load_at (blocks_of s) b c
 
@@ -25,7 +25,7 @@ pub record HeldAt (s : State) (q : Place) (r : Record) : Type 0 where
   pub chunk : q.chunk < s.p
   pub holds : chunk_at (blocks_of s) q.block q.chunk ≡ Holds r
 
--- its four numbers, and the record itself
+-- what the index tells of a record that a chunk holds, and the record read
 abbrev pub TagKnown : Index → Place → Option Tag → Type 0
 TagKnown x q v = (s : State) (r : Record) → Tells s x → HeldAt s q r → v ≡ Some r.tag
 
@@ -45,13 +45,14 @@ PlayedIf s x acts erases v t y = Tells s x → TakesAll s.n s.p (flash_of s x) a
 abbrev pub CopyPlayed : State → Index → Place → Result ℕ Fault → State → Index → Type 0
 CopyPlayed s x from v t y = (r : Record) → HeldAt s from r → PlayedIf s x (copy_at r (copy_place (flash_of s x))) 0 v t y
 
--- the records copied that make a block's load
+-- the acts that copy a block's load
 abbrev pub load_copies : State → Index → ℕ → List Act
 load_copies s x b = copies (flash_of s x) (load_list (blocks_of s) b)
 
+-- they are done, if the block is closed
 abbrev pub LoadPlayed : State → Index → ℕ → Result ℕ Fault → State → Index → Type 0
 LoadPlayed s x b v t y = slice_index_or (stands_in x) b blank_s ≡ closed_s → PlayedIf s x (load_copies s x b) 0 v t y
 
--- and then the block erased
+-- and then the block is erased
 abbrev pub BlockPlayed : State → Index → ℕ → Result ℕ Fault → State → Index → Type 0
 BlockPlayed s x b v t y = slice_index_or (stands_in x) b blank_s ≡ closed_s → PlayedIf s x (load_copies s x b ++ (erasing b ∷ [])) 1 v t y

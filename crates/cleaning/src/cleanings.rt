@@ -9,7 +9,7 @@ use places::{Victim, to_clean};
 use scan::Index;
 use writing::erase;
 
-// A block that was cleaned, and how many records were copied.
+// A block that was cleaned, and how many records were copied: fewer than its load where there was no place for one.
 #[derive(Clone, Copy)]
 pub(crate) struct Cleaned {
     pub victim: Victim,

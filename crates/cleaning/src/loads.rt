@@ -11,7 +11,7 @@ use table::makes_load;
 const MOST_CHUNKS: usize = 2048;
 
 // Whether a chunk is one of those that make the load of its block.
-#[tactic(auto, using(crate::proofs::Marks::marked, crate::proofs::Marks::long_enough, crate::proofs::Marks::unmarked))]
+#[tactic(auto, using(crate::proofs::Marks::marked, crate::proofs::Marks::looks_long, crate::proofs::Marks::unmarked))]
 fn is_marked(index: &Index, block: usize, chunk: usize) -> bool
     ensures { (s : State) → Tells s index.now → block < s.n → result ≡ load_at (blocks_of s) block chunk }
 {
