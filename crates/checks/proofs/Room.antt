@@ -26,16 +26,16 @@ module _ (st : Store) (o : ℕ) where
   absent None e p = refl
   absent (Some f) e p = absurd (both_ways (present (recs st) o) e (present-file (recs st) o ∙ ap is_there p))
 
-  pub create_told : (name : List ℕ) → within 257 511 o ≡ true → present (recs st) o ≡ false → too_many st (create o name) ≡ leb (limit st.n st.p) (used_by (files (recs st)))
-  create_told name w e =
+  pub on_create : (name : List ℕ) → within 257 511 o ≡ true → present (recs st) o ≡ false → too_many st (create o name) ≡ leb (limit st.n st.p) (used_by (files (recs st)))
+  on_create name w e =
       let fs = files (recs st) in
       let a = and_parts (leb 257 o) (leb o 511) w in
       let u = used_by-changed fs o (fresh name) (leb-true 257 o a.0) (leb-true o 511 a.1) in
       one-more (limit st.n st.p) (used_by fs) (used_by (changed fs o (fresh name))) (omega (arith, u, absent (fs o) e refl, used_of-fresh name (fs o)))
 
-  pub put_told : (j : ℕ) (bs : List ℕ) → verdict st.n st.p st.flash.blocks ≡ None → within 1 1000 j ≡ true → present (recs st) o ≡ true
+  pub on_put : (j : ℕ) (bs : List ℕ) → verdict st.n st.p st.flash.blocks ≡ None → within 1 1000 j ≡ true → present (recs st) o ≡ true
       → too_many st (put o j bs) ≡ (not (is_there (chunk (recs st) o j)) && leb (limit st.n st.p) (used_by (files (recs st))))
-  put_told j bs v w e =
+  on_put j bs v w e =
       let fs = files (recs st) in
       let c = is_there (chunk (recs st) o j) in
       let ok = accepted-from st.n st.p st.flash.blocks v in

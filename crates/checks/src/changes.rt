@@ -13,7 +13,7 @@ use scan::{Index, Refusal};
 // caller tells.
 
 // What a create is refused for.
-#[tactic(auto, using(crate::proofs::Known::present_told, crate::proofs::Known::taken_told, crate::proofs::Room::create_told))]
+#[tactic(auto, using(crate::proofs::Known::present_told, crate::proofs::Known::taken_told, crate::proofs::Room::on_create))]
 pub fn create(index: &Index, object: u32, name: &[u8]) -> Result<(), Refusal>
     ensures { (st : Store) → Runs st index.now → Checked (refusal st (create object name.now)) result }
 {
