@@ -23,7 +23,7 @@ pub fn largest<F: Fn(Tag) -> u32>(looks: &[Look], number: F) -> u32
     ensures { (f : Record → ℕ) → ActsAs F.FnMut number (λ t. f (bare_tag t)) → result ≡ largest f (records looks.now) }
 {
     let tags = looks.iter().filter_map(Look::tag);
-    tags.fold(0, |most, tag| most.max(number(tag)))
+    tags.map(number).max().unwrap_or(0)
 }
 
 // The highest serial that stands, or 0.
