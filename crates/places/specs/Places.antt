@@ -1,5 +1,5 @@
 -- What an index tells of a chip's contents and standings, and the places that follow. Assumes nothing.
-use Rattle.std.specs.Prelude.{◌≡◌, ℕ, ◌*◌, ◌<◌, Bool, true, false, cond, List, [], length, take, drop, position, Some, None, vec_items, Option, nat_le, nat_lt, slice_index_or}
+use Rattle.std.specs.Prelude.{◌≡◌, ℕ, ◌*◌, ◌<◌, Bool, true, false, cond, List, [], length, take, drop, position, Some, None, vec_items, Option, nat_le, slice_index_or}
 use Rattle.flash.specs.declared.chunks.Chunk.{Chunk}
 use Rattle.flash.specs.declared.chunks.Look.{Look}
 use Rattle.flash.specs.declared.chunks.Look.TheVariants.{Blank, Damaged, Record as record_l}
@@ -61,10 +61,6 @@ place_told (Some q) = Some (q.block, q.chunk)
 abbrev pub victim_told : Option Victim → Option (ℕ × ℕ)
 victim_told None = None
 victim_told (Some v) = Some (v.block, v.load)
-
--- of two blocks the one of lesser load, the first among equals
-abbrev pub lighter : Victim → Victim → Victim
-lighter v w = cond (nat_lt w.load v.load) w v
 
 -- a block with its load
 abbrev pub with_load : (ℕ → ℕ) → ℕ → Victim

@@ -1,6 +1,6 @@
 ghost use Rattle.std.specs.Prelude.{◌≡◌, ◌<◌};
 ghost use Rattle.rules.specs.Places.{Flash, load, to_clean};
-ghost use Rattle.places.specs.Places.{Told, blocks_in, victim_told, lighter, with_load};
+ghost use Rattle.places.specs.Places.{Told, blocks_in, victim_told, with_load};
 
 use rules::Standing;
 use scan::Index;
@@ -24,13 +24,6 @@ fn with_load(index: &Index, block: usize) -> Victim
     }
 }
 
-// Of two blocks the one of lesser load, the first among equals.
-fn lighter(best: Victim, other: Victim) -> Victim
-    ensures { result ≡ lighter best other }
-{
-    if other.load < best.load { other } else { best }
-}
-
 // The closed block of least load, the lowest number among equals.
 pub fn to_clean(index: &Index) -> Option<Victim>
     ensures { (f : Flash) → Told f index.now → victim_told result ≡ to_clean f }
@@ -41,5 +34,5 @@ pub fn to_clean(index: &Index) -> Option<Victim>
         .enumerate()
         .filter(|(_, standing)| **standing == Standing::Closed)
         .map(|(block, _)| with_load(index, block))
-        .reduce(lighter)
+        .min_by_key(|victim| victim.load)
 }
