@@ -3,6 +3,7 @@ pub mod Refusals
 pub mod Words
 pub mod Scans
 pub mod Tables
+pub mod Chips
 pub mod Starts
 pub mod Formats
 pub mod Clashes

@@ -2,6 +2,7 @@ ghost use Rattle.std.specs.Prelude.{◌≡◌};
 ghost use Rattle.std.specs.Option.{option_to_list};
 ghost use Rattle.rules.specs.Records.{rules_by, keeps_rules};
 ghost use Rattle.names.specs.Names.{entries_of};
+ghost use Rattle.scan.specs.Chips.{chip_of};
 ghost use Rattle.scan.specs.Checks.{FirstNoted, RowChecked, RowsChecked};
 
 use crate::refusals::Refusal;
@@ -46,7 +47,7 @@ fn keeps_rules(tag: &Tag, first: Option<u8>) -> bool
 impl<C: Chip> Entry<'_, '_, C> {
     // Notes the name in a header that is its file's, and tells the first byte of its data; other records' data stay unread.
     fn first_byte(&self, names: &mut Names) -> Result<Option<u8>, Fault>
-        ensures { FirstNoted (C.Chip.model self.now.scan.now.chip.now) self.now.scan.now.rows.now self.now.row self.now.tag (entries_of names.old) result (entries_of names.new) }
+        ensures { FirstNoted (chip_of self.now.scan.now) self.now.scan.now.rows.now self.now.row self.now.tag (entries_of names.old) result (entries_of names.new) }
     {
         if !kind_of(&self.tag).is_header() {
             return Ok(None);
@@ -60,7 +61,7 @@ impl<C: Chip> Entry<'_, '_, C> {
 
     // Checks the record, and notes its name.
     fn check(&self, names: &mut Names) -> Result<(), Refusal>
-        ensures { RowChecked (C.Chip.model self.now.scan.now.chip.now) self.now.scan.now.rows.now self.now.row (entries_of names.old) result (entries_of names.new) }
+        ensures { RowChecked (chip_of self.now.scan.now) self.now.scan.now.rows.now self.now.row (entries_of names.old) result (entries_of names.new) }
     {
         let first = self.first_byte(names)?;
         if !keeps_rules(&self.tag, first) {
@@ -73,7 +74,7 @@ impl<C: Chip> Entry<'_, '_, C> {
 impl<C: Chip> Scan<'_, C> {
     // Checks the record in every row, in rising place, and notes the names of the files.
     pub(crate) fn check_rows(&self, names: &mut Names) -> Result<(), Refusal>
-        ensures { RowsChecked (C.Chip.model self.now.chip.now) self.now.rows.now result (entries_of names.new) }
+        ensures { RowsChecked (chip_of self.now) self.now.rows.now result (entries_of names.new) }
     {
         names.clear();
         for (row, look) in self.rows.iter().enumerate() {

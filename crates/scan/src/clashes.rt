@@ -1,4 +1,5 @@
 ghost use Rattle.std.specs.Prelude.{◌≡◌};
+ghost use Rattle.scan.specs.Chips.{chip_of};
 ghost use Rattle.scan.specs.Clashes.{Clash, DataAlike, ClashBefore, Clashed};
 ghost use Rattle.scan.specs.Tables.{row_of};
 
@@ -8,14 +9,14 @@ use flash::{Chip, Fault, Place};
 impl<C: Chip> Entry<'_, '_, C> {
     // Whether two records have the same data bytes. By itself: in `clashes_with` the buffers were cleared for every pair.
     fn same_data(&self, other: &Entry<'_, '_, C>) -> Result<bool, Fault>
-        ensures { DataAlike (row_of (C.Chip.model self.now.scan.now.chip.now) self.now.row) (row_of (C.Chip.model other.now.scan.now.chip.now) other.now.row) result }
+        ensures { DataAlike (row_of (chip_of self.now.scan.now) self.now.row) (row_of (chip_of other.now.scan.now) other.now.row) result }
     {
         Ok(self.data()? == other.data()?)
     }
 
     // Whether two records with one serial are unlike.
     fn clashes_with(&self, other: &Entry<'_, '_, C>) -> Result<bool, Fault>
-        ensures { Clash (row_of (C.Chip.model self.now.scan.now.chip.now) self.now.row) (row_of (C.Chip.model other.now.scan.now.chip.now) other.now.row) result }
+        ensures { Clash (row_of (chip_of self.now.scan.now) self.now.row) (row_of (chip_of other.now.scan.now) other.now.row) result }
     {
         if self.tag.serial != other.tag.serial {
             return Ok(false);
@@ -25,7 +26,7 @@ impl<C: Chip> Entry<'_, '_, C> {
 
     // Whether the record is unlike an earlier one with its serial.
     fn clash_before(&self) -> Result<bool, Fault>
-        ensures { ClashBefore (C.Chip.model self.now.scan.now.chip.now) self.now.row result }
+        ensures { ClashBefore (chip_of self.now.scan.now) self.now.row result }
     {
         for (row, look) in self.scan.rows[..self.row].iter().enumerate() {
             let Some(earlier) = self.scan.entry(row, *look) else {
@@ -42,7 +43,7 @@ impl<C: Chip> Entry<'_, '_, C> {
 impl<C: Chip> Scan<'_, C> {
     // The first place, in rising place, whose record is unlike an earlier one with its serial.
     pub(crate) fn first_clash(&self) -> Result<Option<Place>, Fault>
-        ensures { Clashed (C.Chip.model self.now.chip.now) result }
+        ensures { Clashed (chip_of self.now) result }
     {
         for (row, look) in self.rows.iter().enumerate() {
             let Some(entry) = self.entry(row, *look) else {

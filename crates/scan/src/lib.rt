@@ -4,6 +4,7 @@
 
 mod checks;
 mod clashes;
+mod entries;
 pub mod formats;
 pub mod indexes;
 mod mounting;

@@ -3,6 +3,7 @@ ghost use Rattle.rules.specs.Mounting.{limit};
 ghost use Rattle.rules.specs.Reading.{used};
 ghost use Rattle.tags.specs.Bare.{records};
 ghost use Rattle.names.specs.Names.{entries_of};
+ghost use Rattle.scan.specs.Chips.{chip_of};
 ghost use Rattle.scan.specs.Mounts.{Examined, Idle};
 
 use crate::refusals::Refusal;
@@ -30,7 +31,7 @@ impl<C: Chip> Scan<'_, C> {
 
     // Checks what the chip holds, and notes the names of the files.
     pub(crate) fn examine(&self, names: &mut Names) -> Result<(), Refusal>
-        ensures { Examined (C.Chip.model self.now.chip.now) result self.now.rows.now (entries_of names.new) }
+        ensures { Examined (chip_of self.now) result self.now.rows.now (entries_of names.new) }
     {
         self.check_rows(names)?;
         if let Some(at) = self.first_clash()? {

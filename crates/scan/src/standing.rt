@@ -3,6 +3,7 @@ ghost use Rattle.flash.specs.Model.{blocks_of};
 ghost use Rattle.flash.specs.declared.chunks.Look.TheVariants.{Blank};
 ghost use Rattle.std.specs.List.{All};
 ghost use Rattle.rules.specs.Mounting.{mounted_block};
+ghost use Rattle.scan.specs.Chips.{chip_of};
 
 use crate::tables::Scan;
 use flash::{Chip, Look};
@@ -21,7 +22,7 @@ impl<C: Chip> Scan<'_, C> {
     // standings that it leaves.
     pub(crate) fn stand(&self, standings: &mut [Standing])
         requires { length standings.old ≡ self.now.sizes.blocks }
-        ensures { standings.new ≡ map mounted_block (blocks_of (C.Chip.model self.now.chip.now)) }
+        ensures { standings.new ≡ map mounted_block (blocks_of (chip_of self.now)) }
     {
         for (block, standing) in standings.iter_mut().enumerate() {
             let blank = all_blank(&self.rows[self.sizes.rows_of(block as u32)]);
