@@ -1,7 +1,5 @@
 -- What the commands are for, and what is said of words that are none, as bytes of text. Assumes nothing.
 use Rattle.std.specs.Prelude.{ℕ, List, ◌++◌, codes}
-use Rattle.scan.specs.declared.refusals.Refusal.TheVariants.{BadSizes}
-use Rattle.scan.specs.Words.{refusal_text}
 use Rattle.words.specs.declared.names.Name.{Name}
 use Rattle.words.specs.declared.names.Name.TheVariants.{Help, Demo, New, Dump}
 use Rattle.words.specs.declared.parsing.Misuse.{Misuse}
@@ -28,7 +26,7 @@ usage_text = usage_of Demo ++ (usage_of New ++ (usage_of Dump ++ usage_of Help))
 
 -- refusal 9: a chip that no store can mount
 abbrev pub sizes_text : List ℕ
-sizes_text = refusal_text BadSizes
+sizes_text = codes "9, the number of blocks is outside 3 to 64, that of chunks in each outside 2 to 64, or that of all chunks over 2,048"
 
 abbrev pub misuse_text : Misuse → List ℕ
 misuse_text (Unknown w) = codes "no command '" ++ (w.now ++ codes "', see tfs help")

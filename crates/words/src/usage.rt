@@ -3,7 +3,6 @@ ghost use Rattle.words.specs.Usage.{synopsis_text, purpose_text, usage_of, usage
 
 use crate::names::Name;
 use crate::parsing::Misuse;
-use scan::Refusal;
 use std::alloc::Global;
 use std::fmt;
 use texts::stops::Stop;
@@ -65,7 +64,12 @@ impl fmt::Display for Misuse<'_> {
             Misuse::Unknown(word) => write!(f, "no command '{word}', see tfs help"),
             Misuse::Operands(name) => write!(f, "wrong number of words, write {}", name.synopsis()),
             Misuse::NotANumber(word) => write!(f, "'{word}' is not a number"),
-            Misuse::Sizes => write!(f, "refused: {}", Refusal::BadSizes),
+            // as `scan` has it, on which `words` cannot stand: its library `names` and the module of that name would be one
+            Misuse::Sizes => write!(
+                f,
+                "refused: 9, the number of blocks is outside 3 to 64, that of chunks in each outside 2 to 64, \
+                 or that of all chunks over 2,048"
+            ),
         }
     }
 }
