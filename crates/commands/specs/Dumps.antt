@@ -5,7 +5,7 @@ use Rattle.flash.specs.Faults.{misfit_number}
 use Rattle.flash.specs.Model.{State, started}
 use Rattle.image.specs.Format.{misfit, chip_of}
 use Rattle.texts.specs.declared.stops.Stop.{Stop}
-use Rattle.texts.specs.declared.stops.Stop.TheVariants.{Memory, Refused, Store}
+use Rattle.texts.specs.declared.stops.Stop.TheVariants.{Memory, Refused}
 use Rattle.lines.specs.Chunks.{chip_lines}
 
 abbrev pub power_text : Bool → List ℕ
@@ -23,4 +23,3 @@ abbrev pub Dumped : List ℕ → Result (String Global) Stop → Type 0
 Dumped xs (Ok v) = (misfit xs ≡ 0) × (string_bytes v ≡ dump_text (chip_of xs))
 Dumped xs (Err Memory) = Unit {0}
 Dumped xs (Err (Refused m)) = misfit xs ≡ misfit_number m
-Dumped xs (Err (Store e)) = ⊥

@@ -1,9 +1,8 @@
 ghost use Rattle.std.specs.Prelude.{◌≡◌, Some};
-ghost use Rattle.texts.specs.declared.stops.Stop.TheVariants.{Memory, Refused, Store};
+ghost use Rattle.texts.specs.declared.stops.Stop.TheVariants.{Memory, Refused};
 ghost use Rattle.texts.specs.Stops.{stop_text};
 
 use flash::{Misfit, Unmade};
-use scan::Refusal;
 use std::alloc::AllocError;
 use std::fmt;
 
@@ -11,10 +10,7 @@ use std::fmt;
 #[derive(Clone, Copy, PartialEq, Eq, Debug)]
 pub enum Stop {
     Memory,
-    // no chip could be made of the bytes
     Refused(Misfit),
-    // the store refuses
-    Store(Refusal),
 }
 
 impl From<AllocError> for Stop {
@@ -43,14 +39,6 @@ impl<C: Drop> From<Unmade<C>> for Stop {
     }
 }
 
-impl From<Refusal> for Stop {
-    ghost from_gives = { λ e r. r ≡ Store e };
-
-    fn from(e: Refusal) -> Stop {
-        Self::Store(e)
-    }
-}
-
 impl fmt::Display for Stop {
     ghost output = { λ x. Some (stop_text x) };
 
@@ -58,7 +46,6 @@ impl fmt::Display for Stop {
         match self {
             Stop::Memory => write!(f, "no memory is left"),
             Stop::Refused(why) => write!(f, "refused: {why}"),
-            Stop::Store(why) => write!(f, "refused: {why}"),
         }
     }
 }
