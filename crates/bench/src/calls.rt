@@ -7,6 +7,7 @@ ghost use Rattle.bench.specs.Benches.{state_of};
 use crate::benches::BenchChip;
 use crate::rows::all_blank;
 use flash::{Act, CHUNK_BYTES, Chip, Chunk, Fault, Look, Place, Purpose, Record, Sizes};
+use std::ops::Range;
 
 impl Chip for BenchChip {
     ghost model = { state_of };
@@ -33,11 +34,11 @@ impl Chip for BenchChip {
         ensures rules { Programmed (state_of self.old) purpose at «record».now result (state_of self.new) }
         ensures plan { ByPlan self.old result self.new (ProgramActs self.old at «record».now self.new) }
     {
-        let rows = self.rows_from(at)?;
-        if !all_blank(&self.rows[rows.start..rows.end]) {
+        let Range { start, end } = self.rows_from(at)?;
+        if !all_blank(&self.rows[start..end]) {
             return Err(Fault::NotBlank);
         }
-        self.rows[rows.start] = self.filled(at.chunk, record);
+        self.rows[start] = self.filled(at.chunk, record);
         self.count(purpose.at(at))
     }
 

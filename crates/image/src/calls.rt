@@ -68,12 +68,13 @@ impl Chip for ImageChip {
         ensures rules { Programmed (state_of self.old) purpose at «record».now result (state_of self.new) }
         ensures bytes { ProgramLeaves self.old at «record».now result self.new }
     {
-        let found = self.find(at)?;
-        let (rest, _) = self.bytes[found.start..found.end].as_chunks();
+        let Range { start, end } = self.find(at)?;
+        let (rest, _) = self.bytes[start..end].as_chunks();
         if !all_blank(rest) {
             return Err(Fault::NotBlank);
         }
-        self.bytes[found.start..found.start + CHUNK].copy_from_slice(&code_of(record));
+        // Tried: first_chunk_mut, but a proof of what the bytes end as did not close.
+        self.bytes[start..start + CHUNK].copy_from_slice(&code_of(record));
         Ok(())
     }
 

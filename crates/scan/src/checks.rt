@@ -77,7 +77,7 @@ impl<C: Chip> Scan<'_, C> {
         ensures { RowsChecked (chip_of self.now) self.now.rows.now result (entries_of names.new) }
     {
         names.clear();
-        // A loop: the borrow checker covers no filter_map whose closure's result borrows, as an entry does its scan.
+        // Tried: filter_map to the entries, but the borrow checker does not cover a closure that gives one.
         for (row, look) in self.rows.iter().enumerate() {
             let Some(entry) = self.entry(row, *look) else {
                 continue;
