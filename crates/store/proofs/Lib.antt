@@ -1,3 +1,4 @@
 pub mod Holding
 pub mod Mounting
 pub mod Running
+pub mod Changing

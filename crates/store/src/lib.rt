@@ -4,7 +4,10 @@
 
 mod asks;
 pub mod calls;
+mod held;
 pub mod stores;
+pub mod tickets;
 
 pub use calls::Unattached;
 pub use stores::Store;
+pub use tickets::Ticket;

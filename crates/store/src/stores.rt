@@ -3,6 +3,7 @@ ghost use Rattle.flash.specs.Model.{view_of};
 ghost use Rattle.scan.specs.Indexes.{Knows};
 ghost use Rattle.store.specs.Running.{StandsSo, OpenPresent};
 
+use crate::held::Held;
 use flash::Chip;
 use scan::Index;
 
@@ -13,7 +14,7 @@ use scan::Index;
 pub struct Store<C: Chip> {
     pub(crate) chip: C,
     pub(crate) index: Index,
-    pub(crate) held: [bool; 255],
+    pub(crate) held: Held,
     pub(crate) running: bool,
     ghost known: { running ≡ true → Knows (view_of (C.Chip.model chip)) index },
     ghost stands: { running ≡ true → ∥ StandsSo (C.Chip.model chip) index ∥₁ },
