@@ -1,0 +1,11 @@
+pub mod Acts
+pub mod Playing
+pub mod Unclosed
+pub mod Spots
+pub mod Chosen
+pub mod Marks
+pub mod Reading
+pub mod Copying
+pub mod Emptying
+pub mod Bounded
+pub mod Adding

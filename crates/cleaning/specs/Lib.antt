@@ -1,0 +1,3 @@
+pub mod Cleaning
+pub mod Once
+pub mod Steps
