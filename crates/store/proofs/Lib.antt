@@ -2,3 +2,4 @@ pub mod Holding
 pub mod Mounting
 pub mod Running
 pub mod Changing
+pub mod Serials

@@ -1,3 +1,4 @@
 pub mod Stores
 pub mod Stored
 pub mod Running
+pub mod Changes

@@ -4,6 +4,7 @@
 
 mod asks;
 pub mod calls;
+mod changes;
 mod held;
 pub mod stores;
 pub mod tickets;

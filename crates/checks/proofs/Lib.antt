@@ -1,0 +1,4 @@
+pub mod Uses
+pub mod Accepted
+pub mod Room
+pub mod Known

@@ -1,0 +1,45 @@
+ghost use Rattle.std.specs.Prelude.{◌≡◌, false};
+ghost use Rattle.rules.specs.Calls.{create, next};
+ghost use Rattle.flash.specs.Blocks.{standing};
+ghost use Rattle.flash.specs.Model.{blocks_of, view_of};
+ghost use Rattle.rules.specs.Refusals.{no_serial};
+ghost use Rattle.scan.specs.Indexes.{Knows};
+ghost use Rattle.store.specs.Stored.{stored};
+ghost use Rattle.store.specs.Changes.{Changed, AddTold};
+
+use crate::stores::Store;
+use cleaning::Counts;
+use flash::{Chip, Record};
+use scan::Refusal;
+use tags::highest_serial;
+
+impl<C: Chip> Store<C> {
+    // The serial of the record that a change adds: one above the highest that stands.
+    #[tactic(auto, using(crate::proofs::Serials::next_told))]
+    fn next_serial(&self) -> u32
+        ensures { Knows (view_of (C.Chip.model self.now.chip)) self.now.index → no_serial (standing (blocks_of (C.Chip.model self.now.chip))) ≡ false → result ≡ next (standing (blocks_of (C.Chip.model self.now.chip))) }
+    {
+        highest_serial(self.index.looks()).saturating_add(1)
+    }
+
+    // Adds a record. The store is stopped meanwhile, and stays so where the supply fails.
+    fn add(&mut self, record: &Record) -> Result<Counts, Refusal>
+        ensures played { AddTold (C.Chip.model self.old.chip) self.old.index «record».now result (C.Chip.model self.new.chip) self.new.index }
+        ensures stopped { (self.new.running ≡ false) × (self.new.held ≡ self.old.held) }
+    {
+        self.running = false;
+        Ok(cleaning::add(&mut self.chip, &mut self.index, record)?)
+    }
+
+    // A file of this name and of length 0.
+    pub fn create(&mut self, object: u32, name: &[u8]) -> Result<Counts, Refusal>
+        ensures { Changed (stored self.old) (create object name.now) result (stored self.new) }
+    {
+        checks::create(self.known()?, object, name)?;
+        let record = drafts::create(object, name, self.next_serial());
+        let counts = self.add(&record)?;
+        self.index.names.put(object, name);
+        self.running = true;
+        Ok(counts)
+    }
+}
