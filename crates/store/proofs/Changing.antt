@@ -44,14 +44,14 @@ same_store n n' p p' on on' r o f f' a b c d = cc
 
 module _ (s : State) (x : Index) (held : List Bool) where
   -- the store, as the rules have it
-  abbrev old : Store
+  abbrev pub old : Store
   old = store_of s true held (vec_items x.standings)
 
   module _ (k : Knows (view_of s) x) (op : OpenPresent s held) where
-    flash_told : old.flash ≡ flash_of s x
+    pub flash_told : old.flash ≡ flash_of s x
     flash_told = ap (λ (i : ℕ). record { blocks = blocks_of s; stand = take i (vec_items x.standings) }) (sym k.blocks)
 
-    holds : StandsSo s x → Holds 2048 old
+    pub holds : StandsSo s x → Holds 2048 old
     holds st = record {
       shaped = shaped s k.whole;
       mounts = k.accepted;

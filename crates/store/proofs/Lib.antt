@@ -2,4 +2,6 @@ pub mod Holding
 pub mod Mounting
 pub mod Running
 pub mod Changing
+pub mod Adding
+pub mod Checked
 pub mod Serials

@@ -9,7 +9,7 @@ use Rattle.rules.specs.Refusals.{Store, refusal}
 use Rattle.scan.specs.declared.refusals.Refusal.{Refusal}
 use Rattle.scan.specs.declared.refusals.Refusal.TheVariants.{Chip}
 use Rattle.scan.specs.Refusals.{told}
-use Rattle.cleaning.specs.declared.counts.Counts.{Counts}
+use Rattle.cleaning.specs.declared.adds.Counts.{Counts}
 use Rattle.writing.specs.Writing.{act_told}
 use Rattle.cleaning.specs.Cleaning.{AddPlayed}
 use Rattle.flash.specs.declared.chunks.Record.{Record}

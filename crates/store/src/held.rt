@@ -24,7 +24,7 @@ pub(crate) fn is_held(held: &Held, object: u32) -> bool
 
 // The file of an object is open now, or is not.
 pub(crate) fn hold(held: &mut Held, object: u32, open: bool)
-    ensures { (k : ℕ) → held_at held.new k ≡ cond (within 257 511 object && k == object) open (held_at held.old k) }
+    ensures { (k : ℕ) → held_at held.new k ≡ cond (within 257 511 object && k == object) «open» (held_at held.old k) }
 {
     if is_object(object) {
         held[(object - FIRST_OBJECT) as usize] = open;
