@@ -8,20 +8,20 @@ use Rattle.flash.specs.Model.{State, blocks_of, view_of}
 use Rattle.names.specs.Names.{Entries, Mirrors, Noted, name_if}
 use Rattle.names.proofs.Mirrored.{noted-mirrors}
 use Rattle.rules.specs.Lists.{within}
-use Rattle.rules.specs.Calls.{Call, create, next, record_by, record_of}
+use Rattle.rules.specs.Calls.{Call, create, put, cut, rename, delete, next, record_by, record_of}
 use Rattle.rules.specs.Machine.{IsChange, when_refused}
-use Rattle.rules.specs.Reading.{File, Files, files}
-use Rattle.rules.specs.Refusals.{Store, recs, early_table, room_table, no_serial, refusal}
-use Rattle.rules.specs.Right.{changed}
+use Rattle.rules.specs.Reading.{File, Files, files, present}
+use Rattle.rules.specs.Refusals.{Store, recs, is_open, early_table, room_table, no_serial, refusal}
+use Rattle.rules.specs.Right.{changed, with_part, shortened}
 use Rattle.rules.proofs.Checks.{clear-all}
 use Rattle.scan.specs.declared.indexes.Index.{Index}
 use Rattle.scan.specs.declared.refusals.Refusal.{Refusal}
 use Rattle.scan.specs.Indexes.{Knows}
 use Rattle.scan.specs.Refusals.{told}
 use Rattle.checks.specs.Checks.{Runs}
-use Rattle.drafts.specs.Drafts.{IsObject, IsName}
+use Rattle.drafts.specs.Drafts.{IsObject, IsName, IsPut}
 use Rattle.store.specs.Changes.{Refused}
-use Rattle.store.specs.Stores.{store_of}
+use Rattle.store.specs.Stores.{store_of, held_at}
 use Rattle.store.specs.Running.{StandsSo, OpenPresent}
 use Rattle.store.proofs.Adding.{Ready}
 
@@ -57,10 +57,48 @@ module _ {s : State} {x seen : Index} {on : Bool} {held : List Bool} (a : Sure s
   }
 
 -- what the arguments of a call are that is not refused, and that a serial is left
-pub create_clear : (st : Store) (o : ℕ) (name : List ℕ) → refusal st (create o name) ≡ 0 → IsObject o × IsName name × (no_serial (recs st) ≡ false)
+create_clear : (st : Store) (o : ℕ) (name : List ℕ) → refusal st (create o name) ≡ 0 → IsObject o × IsName name × (no_serial (recs st) ≡ false)
 create_clear st o name e =
     let cl = clear-all (early_table st (create o name) ++ room_table st (create o name)) (omega arith) e in
     (not-false _ cl.1.0, not-false _ cl.1.1.0, cl.1.1.1.1.1.0)
+
+put_clear : (st : Store) (o j : ℕ) (bs : List ℕ) → refusal st (put o j bs) ≡ 0 → IsPut bs × (no_serial (recs st) ≡ false)
+put_clear st o j bs e =
+    let cl = clear-all (early_table st (put o j bs) ++ room_table st (put o j bs)) (omega arith) e in
+    (not-false _ cl.1.1.0, cl.1.1.1.1.0)
+
+delete_clear : (st : Store) (o : ℕ) → refusal st (delete o) ≡ 0 → IsObject o × (no_serial (recs st) ≡ false)
+delete_clear st o e =
+    let cl = clear-all (early_table st (delete o) ++ room_table st (delete o)) (omega arith) e in
+    (not-false _ cl.1.0, cl.1.1.1.1.0)
+
+-- the changes, ready
+module _ {s : State} {x seen : Index} {on : Bool} {held : List Bool} (a : Sure s x seen on held) (serial : ℕ) (r : Record)
+    (above : Knows (view_of s) x → no_serial (standing (blocks_of s)) ≡ false → serial ≡ next (standing (blocks_of s))) where
+  abbrev st : Store
+  st = store_of s on held (vec_items x.standings)
+
+  pub create_ready : (o : ℕ) (name : List ℕ) → ((st : Store) → Runs st seen → refusal st (create o name) ≡ 0)
+      → ((fs : Files) → IsObject o → IsName name → r ≡ record_by 2048 serial fs (create o name)) → Ready s x on held (create o name) r × IsName name
+  create_ready o name check made =
+      let free = check st (seen-runs a) in
+      let cl = create_clear st o name free in
+      (ready a (create o name) tt serial r free above cl.2 (made (files (recs st)) cl.0 cl.1), cl.1)
+
+  pub delete_ready : (o : ℕ) (b : Bool) → b ≡ held_at held o → ((st : Store) → Runs st seen → is_open st o ≡ b → refusal st (delete o) ≡ 0)
+      → ((fs : Files) → IsObject o → r ≡ record_by 2048 serial fs (delete o)) → Ready s x on held (delete o) r
+  delete_ready o b eb check made =
+      let free = check st (seen-runs a) (sym eb) in
+      let cl = delete_clear st o free in
+      ready a (delete o) tt serial r free above cl.1 (made (files (recs st)) cl.0)
+
+  pub put_ready : (o j : ℕ) (bs : List ℕ) (b : Bool) → b ≡ held_at held o
+      → ((st : Store) (bytes : List ℕ) → Runs st seen → is_open st o ≡ b → length bytes ≡ length bs → (b ≡ true → present (recs st) o ≡ true) → refusal st (put o j bytes) ≡ 0)
+      → ((fs : Files) → IsPut bs → r ≡ record_by 2048 serial fs (put o j bs)) → Ready s x on held (put o j bs) r
+  put_ready o j bs b eb check made =
+      let free = check st bs (seen-runs a) (sym eb) refl (λ h. a.present a.known.0 o (sym eb ∙ h)) in
+      let cl = put_clear st o j bs free in
+      ready a (put o j bs) tt serial r free above cl.1 (made (files (recs st)) cl.0)
 
 -- the table of names follows a file that gets a name or loses it
 pub named_changed : (before after : Entries) (fs : Files) (o : ℕ) (f : Option File → Option File) (name : Option (List ℕ))
@@ -70,6 +108,21 @@ named_changed before after fs o f name m n e = noted-mirrors before after fs (ch
 pub named_by_put : (before between after : Entries) (fs : Files) (o : ℕ) (name : List ℕ) (f : Option File → Option File) → Mirrors before fs → between ≡ before
     → MatchBool (within 1 40 (length name)) (Noted between o (Some name) after) (after ≡ between)
     → IsName name → name_if (f (fs o)) ≡ Some name → Mirrors after (changed fs o f)
-named_by_put before between after fs o name f m same put real e =
-    let n = rw real at put in
+named_by_put before between after fs o name f m same h real e =
+    let n = rw real at h in
     named_changed before after fs o f (Some name) m (subst (λ (es : Entries). Noted es o (Some name) after) same n) e
+
+pub named_by_forget : (before between after : Entries) (fs : Files) (o : ℕ) → Mirrors before fs → between ≡ before → Noted between o None after → Mirrors after (changed fs o (λ m. None))
+named_by_forget before between after fs o m same n =
+    named_changed before after fs o (λ m. None) None m (subst (λ (es : Entries). Noted es o None after) same n) refl
+
+pub name_kept : (es : Entries) (fs : Files) (o : ℕ) (f : Option File → Option File) → Mirrors es fs → ((m : Option File) → name_if (f m) ≡ name_if m) → Mirrors es (changed fs o f)
+name_kept es fs o f m same k l u = m k l u ∙ (grind (arith, same (fs k)))
+
+pub with_part_named : (j : ℕ) (bs : List ℕ) (m : Option File) → name_if (with_part j bs m) ≡ name_if m
+with_part_named j bs None = refl
+with_part_named j bs (Some f) = refl
+
+pub shortened_named : (n : ℕ) (m : Option File) → name_if (shortened n m) ≡ name_if m
+shortened_named n None = refl
+shortened_named n (Some f) = refl

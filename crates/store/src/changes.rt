@@ -1,5 +1,5 @@
 ghost use Rattle.std.specs.Prelude.{◌≡◌, false};
-ghost use Rattle.rules.specs.Calls.{create, next};
+ghost use Rattle.rules.specs.Calls.{create, put, delete, next};
 ghost use Rattle.flash.specs.Blocks.{standing};
 ghost use Rattle.flash.specs.Model.{blocks_of, view_of};
 ghost use Rattle.rules.specs.Refusals.{no_serial};
@@ -7,7 +7,9 @@ ghost use Rattle.scan.specs.Indexes.{Knows};
 ghost use Rattle.store.specs.Stored.{stored};
 ghost use Rattle.store.specs.Changes.{Changed, AddTold};
 
+use crate::held::is_held;
 use crate::stores::Store;
+use crate::tickets::Ticket;
 use cleaning::Counts;
 use flash::{Chip, Record};
 use scan::Refusal;
@@ -39,6 +41,32 @@ impl<C: Chip> Store<C> {
         let record = drafts::create(object, name, self.next_serial());
         let counts = self.add(&record)?;
         self.index.names.put(object, name);
+        self.running = true;
+        Ok(counts)
+    }
+
+    // The bytes of a chunk of an open file; the file is that long at least.
+    pub fn put(&mut self, ticket: &Ticket, number: u32, bytes: &[u8]) -> Result<Counts, Refusal>
+        ensures { Changed (stored self.old) (put ticket.now.object number bytes.now) result (stored self.new) }
+    {
+        let object = ticket.object();
+        let open = is_held(&self.held, object);
+        checks::put(self.known()?, object, open, number, bytes.len())?;
+        let record = drafts::put(object, number, bytes, self.next_serial());
+        let counts = self.add(&record)?;
+        self.running = true;
+        Ok(counts)
+    }
+
+    // No file.
+    pub fn delete(&mut self, object: u32) -> Result<Counts, Refusal>
+        ensures { Changed (stored self.old) (delete object) result (stored self.new) }
+    {
+        let open = is_held(&self.held, object);
+        checks::delete(self.known()?, object, open)?;
+        let record = drafts::delete(object, self.next_serial());
+        let counts = self.add(&record)?;
+        self.index.names.forget(object);
         self.running = true;
         Ok(counts)
     }
