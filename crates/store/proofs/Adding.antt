@@ -1,5 +1,5 @@
 -- What a record added makes of a running store: its change is done, or broken off. Assumes nothing.
-use Rattle.std.proofs.Common.{◌≡◌, ℕ, ◌+◌, ◌≤◌, Bool, true, false, List, [], ◌∷◌, take, vec_items, None, Ok, Err, refl, sym, ap, ◌∙◌, subst, arith}
+use Rattle.std.proofs.Common.{◌≡◌, ℕ, Bool, true, false, List, vec_items, None, Ok, Err, refl, sym, ap, ◌∙◌, subst, arith}
 use Rattle.std.proofs.Math.Logic.{∥∥₁_elim}
 use Rattle.std.proofs.Props.{props}
 use Rattle.flash.specs.declared.chunks.Record.{Record}
@@ -8,7 +8,7 @@ use Rattle.flash.specs.Blocks.{standing}
 use Rattle.flash.specs.Model.{State, blocks_of, view_of}
 use Rattle.names.specs.Names.{Mirrors}
 use Rattle.rules.specs.Calls.{Call, create, put, cut, rename, delete, opens, closes, collect, mount, record_of}
-use Rattle.rules.specs.Machine.{IsChange, acts_of, Step, counted, broken, Breaks, Stopped}
+use Rattle.rules.specs.Machine.{IsChange, acts_of, Step, counted, Breaks}
 use Rattle.rules.specs.Mounting.{verdict}
 use Rattle.rules.specs.Places.{Flash, Act, runs, counts}
 use Rattle.rules.specs.Reading.{files}

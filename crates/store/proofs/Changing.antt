@@ -1,26 +1,24 @@
 -- A change played on a running store: it is the rules' step, and what the type says of a running store holds after it. Assumes nothing.
-use Rattle.std.proofs.Common.{◌≡◌, ℕ, Bool, true, false, eqb, List, [], ◌∷◌, length, take, vec_items, None, refl, sym, ap, ◌∙◌, subst, inl, inr, arith}
+use Rattle.std.proofs.Common.{◌≡◌, ℕ, Bool, true, List, [], ◌∷◌, length, take, vec_items, refl, sym, ap, ◌∙◌, subst, inl, inr, arith}
 use Rattle.std.proofs.Math.Logic.{∥∥₁_elim, ∥∥₁_map}
 use Rattle.std.proofs.Props.{props}
 use Rattle.std.proofs.lemmas.Bool.{and_from, eq-eqb}
-use Rattle.flash.specs.declared.chunks.Chunk.{Chunk}
 use Rattle.flash.specs.declared.chunks.Record.{Record}
 use Rattle.flash.specs.Blocks.{standing}
 use Rattle.flash.specs.Model.{State, blocks_of, view_of}
 use Rattle.names.specs.Names.{Mirrors, name_if}
-use Rattle.rules.specs.declared.standings.Standing.{Standing}
 use Rattle.rules.specs.Calls.{Call}
 use Rattle.rules.specs.Lists.{Among}
-use Rattle.rules.specs.Machine.{IsChange, acts_of, Answer, Step, counted, broken, Breaks, with_flash, Stopped}
-use Rattle.rules.specs.Mounting.{sizes_fit, verdict}
+use Rattle.rules.specs.Machine.{IsChange, acts_of, Step, counted, with_flash}
+use Rattle.rules.specs.Mounting.{sizes_fit}
 use Rattle.rules.specs.Places.{Flash, Act, adding, copying, erasing, runs, counts, does}
-use Rattle.rules.specs.Reading.{Files, files, present}
-use Rattle.rules.specs.Refusals.{Store, recs, refusal}
+use Rattle.rules.specs.Reading.{files}
+use Rattle.rules.specs.Refusals.{Store, refusal}
 use Rattle.rules.specs.Right.{accepted}
-use Rattle.rules.specs.Runs.{Stands, Holds, Kept, Rightly, TakesAll}
+use Rattle.rules.specs.Runs.{Stands, Holds, Rightly, TakesAll}
 use Rattle.rules.proofs.Whole.{steps-are-right, holding-suffices}
 use Rattle.scan.specs.declared.indexes.Index.{Index}
-use Rattle.scan.specs.Indexes.{looks_in, stands_in, names_in, Knows}
+use Rattle.scan.specs.Indexes.{names_in, Knows}
 use Rattle.scan.specs.Mounts.{whole_all}
 use Rattle.store.specs.Stores.{held_at, store_of}
 use Rattle.store.specs.Running.{StandsSo, OpenPresent}

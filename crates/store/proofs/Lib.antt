@@ -4,4 +4,5 @@ pub mod Running
 pub mod Changing
 pub mod Adding
 pub mod Checked
+pub mod Opening
 pub mod Serials

@@ -1,8 +1,8 @@
 -- The changes, and open and close: what each answers and leaves. Assumes nothing.
-use Rattle.std.specs.Prelude.{◌≡◌, ℕ, ◌≤◌, true, ◌⊎◌, [], None, Ok, Err, Result}
+use Rattle.std.specs.Prelude.{◌≡◌, ◌⊎◌, [], None, Ok, Err, Result}
 use Rattle.flash.specs.declared.faults.Fault.TheVariants.{SupplyFailed}
 use Rattle.rules.specs.Calls.{Call}
-use Rattle.rules.specs.Machine.{Step, refused, counted, granted, broken}
+use Rattle.rules.specs.Machine.{Step, refused, counted, broken}
 use Rattle.rules.specs.Mounting.{verdict}
 use Rattle.rules.specs.Places.{Act}
 use Rattle.rules.specs.Refusals.{Store, refusal}

@@ -2,3 +2,4 @@ pub mod Stores
 pub mod Stored
 pub mod Running
 pub mod Changes
+pub mod Opening

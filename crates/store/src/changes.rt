@@ -1,5 +1,5 @@
 ghost use Rattle.std.specs.Prelude.{◌≡◌, false};
-ghost use Rattle.rules.specs.Calls.{create, put, delete, next};
+ghost use Rattle.rules.specs.Calls.{create, put, cut, rename, delete, next};
 ghost use Rattle.flash.specs.Blocks.{standing};
 ghost use Rattle.flash.specs.Model.{blocks_of, view_of};
 ghost use Rattle.rules.specs.Refusals.{no_serial};
@@ -54,6 +54,34 @@ impl<C: Chip> Store<C> {
         checks::put(self.known()?, object, open, number, bytes.len())?;
         let record = drafts::put(object, number, bytes, self.next_serial());
         let counts = self.add(&record)?;
+        self.running = true;
+        Ok(counts)
+    }
+
+    // An open file as long as this, which is shorter; its chunks above are gone.
+    pub fn cut(&mut self, ticket: &Ticket, length: u32) -> Result<Counts, Refusal>
+        ensures { Changed (stored self.old) (cut ticket.now.object length) result (stored self.new) }
+    {
+        let object = ticket.object();
+        let open = is_held(&self.held, object);
+        checks::cut(self.known()?, object, open, length)?;
+        let name = self.index.names.name(object).unwrap_or_default();
+        let record = drafts::cut(object, length, name, self.next_serial());
+        let counts = self.add(&record)?;
+        self.running = true;
+        Ok(counts)
+    }
+
+    // Another name for a file that is not open.
+    pub fn rename(&mut self, object: u32, name: &[u8]) -> Result<Counts, Refusal>
+        ensures { Changed (stored self.old) (rename object name.now) result (stored self.new) }
+    {
+        let open = is_held(&self.held, object);
+        checks::rename(self.known()?, object, open, name)?;
+        let length = reading::length(self.index.looks(), object).unwrap_or(0);
+        let record = drafts::rename(object, name, length, self.next_serial());
+        let counts = self.add(&record)?;
+        self.index.names.put(object, name);
         self.running = true;
         Ok(counts)
     }

@@ -6,6 +6,7 @@ mod asks;
 pub mod calls;
 mod changes;
 mod held;
+mod opens;
 pub mod stores;
 pub mod tickets;
 
