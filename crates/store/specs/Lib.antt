@@ -1,3 +1,5 @@
 pub mod Stores
 pub mod Stored
 pub mod Running
+pub mod Changes
+pub mod Opening

@@ -16,7 +16,7 @@ use scan::{Index, Refusal};
 
 impl<C: Chip> Store<C> {
     // What is known of the chip, while the store runs.
-    fn known(&self) -> Result<&Index, Refusal>
+    pub(crate) fn known(&self) -> Result<&Index, Refusal>
         ensures { MatchResult result (λ x. (self.now.running ≡ true) × (x.now ≡ self.now.index) × Knows (view_of (C.Chip.model self.now.chip)) self.now.index) (λ e. (self.now.running ≡ false) × (e ≡ Stopped)) }
     {
         if !self.running {

@@ -6,19 +6,11 @@ ghost use Rattle.scan.specs.Mounts.{verdict_of, runs};
 ghost use Rattle.store.specs.Stores.{NoneHeld, LeftByMount};
 ghost use Rattle.store.specs.Stored.{stored};
 
+use crate::held::none_held;
 use crate::stores::Store;
 use flash::Chip;
-use rules::OBJECTS;
 use scan::{Index, Refusal};
 use std::alloc::Global;
-
-// No file is open.
-#[tactic(auto, using(crate::proofs::Holding::none_are))]
-fn none_held() -> [bool; OBJECTS]
-    ensures { NoneHeld result }
-{
-    [false; OBJECTS]
-}
 
 // No memory for the index: the chip comes back.
 #[derive(Drop)]

@@ -4,7 +4,12 @@
 
 mod asks;
 pub mod calls;
+mod changes;
+mod held;
+mod opens;
 pub mod stores;
+pub mod tickets;
 
 pub use calls::Unattached;
 pub use stores::Store;
+pub use tickets::Ticket;

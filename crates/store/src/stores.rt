@@ -3,8 +3,8 @@ ghost use Rattle.flash.specs.Model.{view_of};
 ghost use Rattle.scan.specs.Indexes.{Knows};
 ghost use Rattle.store.specs.Running.{StandsSo, OpenPresent};
 
+use crate::held::Held;
 use flash::Chip;
-use rules::OBJECTS;
 use scan::Index;
 
 // A chip; while the store runs, what is known of it; and which files are open. A stopped store keeps its index, since attach
@@ -14,7 +14,7 @@ use scan::Index;
 pub struct Store<C: Chip> {
     pub(crate) chip: C,
     pub(crate) index: Index,
-    pub(crate) held: [bool; OBJECTS],
+    pub(crate) held: Held,
     pub(crate) running: bool,
     ghost known: { running ≡ true → Knows (view_of (C.Chip.model chip)) index },
     ghost stands: { running ≡ true → ∥ StandsSo (C.Chip.model chip) index ∥₁ },

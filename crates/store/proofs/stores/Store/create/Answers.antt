@@ -1,0 +1,44 @@
+use Rattle.std.proofs.Common.{refl, inl, inr}
+use Rattle.std.proofs.lemmas.Result.{err_from_is_err_and}
+use Rattle.rules.specs.Calls.{create}
+use Rattle.rules.specs.Right.{fresh}
+use Rattle.store.specs.Stored.{stored}
+use Rattle.store.proofs.Adding.{same_names, step_done, stands_still, present_still, knows_still, broken_off}
+use Rattle.store.proofs.Checked.{Sure, seen-runs, refused_so, create_ready, named_by_put}
+use Rattle.store.proofs.stores.Store.create.Goals as goal
+
+pub returns-in_err-create : goal.returns-in_err-create
+returns-in_err-create g c =
+    let old = c.args.self.now in
+    let a : Sure (g.C.Chip.model old.chip) old.index c.in_ok-known.field-0.now old.running old.held = record { known = c.in_ok-known.ensures; stands = old.stands; present = old.present } in
+    let p = err_from_is_err_and c.from_residual-in_err-create.result c.from_residual-in_err-create.ensures.1 in
+    rw (p.1, p.2) (inl (refused_so a (create c.args.object c.args.name.now) _ refl (c.in_err-create.ensures (stored old) (seen-runs a))))
+
+pub returns-in_err-counts : goal.returns-in_err-counts
+returns-in_err-counts g c =
+    let old = c.args.self.now in
+    let a : Sure (g.C.Chip.model old.chip) old.index c.in_ok-known.field-0.now old.running old.held = record { known = c.in_ok-known.ensures; stands = old.stands; present = old.present } in
+    let z = create_ready a _ _ c.next_serial.ensures c.args.object c.args.name.now c.in_ok-create.ensures c.create-record.ensures in
+    let b = c.in_err-counts.ensures in
+    let p = err_from_is_err_and c.from_residual-in_err-counts.result c.from_residual-in_err-counts.ensures.1 in
+    rw (p.1, p.2, b.played.1, b.stopped.0, b.stopped.1) (inr (broken_off z.0 b.played.0 _ _ b.played.2))
+
+pub invariant_of-self-2 : goal.invariant_of-self-2
+invariant_of-self-2 g c =
+    let old = c.args.self.now in
+    let a : Sure (g.C.Chip.model old.chip) old.index c.in_ok-known.field-0.now old.running old.held = record { known = c.in_ok-known.ensures; stands = old.stands; present = old.present } in
+    let z = create_ready a _ _ c.next_serial.ensures c.args.object c.args.name.now c.in_ok-create.ensures c.create-record.ensures in
+    let h = c.in_ok-counts.ensures in
+    record {
+      known = λ q. knows_still z.0 _ _ _ h.played _ (record { sizes = refl; rows = refl; stands = refl }) (named_by_put _ _ _ _ _ _ (fresh c.args.name.now) z.0.knows.named (same_names z.0 _ _ _ h.played) c.put.ensures z.1 refl);
+      stands = λ q. stands_still z.0 _ _ _ h.played;
+      present = λ q. rw (h.stopped.1) (present_still z.0 _ _ _ h.played);
+    }
+
+pub returns : goal.returns
+returns g c =
+    let old = c.args.self.now in
+    let a : Sure (g.C.Chip.model old.chip) old.index c.in_ok-known.field-0.now old.running old.held = record { known = c.in_ok-known.ensures; stands = old.stands; present = old.present } in
+    let z = create_ready a _ _ c.next_serial.ensures c.args.object c.args.name.now c.in_ok-create.ensures c.create-record.ensures in
+    let h = c.in_ok-counts.ensures in
+    rw (h.stopped.1) (step_done z.0 _ _ _ h.played)
