@@ -1,5 +1,5 @@
-// The store over any chip: attach, release, format, mount and the questions. It touches its chip by the calls of
-// `flash::Chip` alone, and takes memory in attach alone.
+// The store over any chip: attach, release, format, mount, the questions, open and close, and the five changes. It touches
+// its chip by the calls of `flash::Chip` alone, and takes memory in attach alone.
 #![tactic(auto)]
 
 mod asks;
