@@ -1,0 +1,4 @@
+mod cases;
+mod chips;
+mod refusals;
+mod tickets;
