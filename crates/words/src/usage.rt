@@ -1,4 +1,5 @@
-ghost use Rattle.std.specs.Prelude.{◌≡◌, IfOk, Some, string_bytes};
+ghost use Rattle.std.specs.Prelude.{◌≡◌, IfErr, IfOk, Some, string_bytes};
+ghost use Rattle.texts.specs.declared.stops.Stop.TheVariants.{Memory};
 ghost use Rattle.words.specs.Usage.{synopsis_text, purpose_text, usage_of, usage_text, misuse_text};
 
 use crate::names::Name;
@@ -50,7 +51,8 @@ impl fmt::Display for Usage {
 
 // What every command is for.
 pub fn help(heap: Global) -> Result<String, Stop>
-    ensures { IfOk result (λ v. string_bytes v ≡ usage_text) }
+    ensures text { IfOk result (λ v. string_bytes v ≡ usage_text) }
+    ensures memory { IfErr result (λ e. e ≡ Memory) }
 {
     let [demo, new, dump, help] = [Name::Demo, Name::New, Name::Dump, Name::Help].map(Usage);
     Ok(format!(in heap; "{demo}{new}{dump}{help}")?)
