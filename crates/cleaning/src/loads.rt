@@ -4,11 +4,9 @@ ghost use Rattle.table.specs.Loads.{load_at};
 ghost use Rattle.writing.specs.Writing.{Tells};
 ghost use Rattle.cleaning.specs.Steps.{MarksLoad};
 
+use rules::MOST_CHUNKS;
 use scan::Index;
 use table::makes_load;
-
-// The most chunks that a block can have: an index has room for no more.
-const MOST_CHUNKS: usize = 2048;
 
 // Whether a chunk is one of those that make the load of its block.
 #[tactic(auto, using(crate::proofs::Marks::marked, crate::proofs::Marks::looks_long, crate::proofs::Marks::unmarked))]

@@ -9,5 +9,5 @@ pub mod tags;
 
 pub use finds::{Found, newest};
 pub use kinds::{kind_of, object_of};
-pub use queries::{any, highest_serial, largest};
+pub use queries::{any, highest_serial};
 pub use tags::{data_of, head_of, hides, newer, same_object};

@@ -18,7 +18,7 @@ pub fn any<F: Fn(Tag) -> bool>(looks: &[Look], test: F) -> bool
 }
 
 // The largest number that a record has, or 0.
-pub fn largest<F: Fn(Tag) -> u32>(looks: &[Look], number: F) -> u32
+pub(crate) fn largest<F: Fn(Tag) -> u32>(looks: &[Look], number: F) -> u32
     requires { F.IsAlwaysCallable number }
     ensures { (f : Record → ℕ) → ActsAs F.FnMut number (λ t. f (bare_tag t)) → result ≡ largest f (records looks.now) }
 {
