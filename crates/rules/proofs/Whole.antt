@@ -121,6 +121,9 @@ stands_on w s g lv = record {
     two : get_or s.flash.stand g.way.0 blank_s ≡ blank_s → get_or s.flash.stand g.way.0 closed_s ≡ blank_s
     two e = other s.flash.stand g.way.0 (grind arith) e
 
+pair_of : {a b c d : ℕ} → a ≡ c → b ≡ d → ◌≡◌ {A = ℕ × ℕ} (a, b) (c, d)
+pair_of p q = cc
+
 kept : (w : ℕ) → 2048 ≤ w → (s : Store) → Inv w s → (fs : Files) → ((o : ℕ) → files (recs s) o ≡ fs o) → Kept w s.n s.p fs s
 kept w big s inv fs same = record {
   rightly = same;
@@ -128,6 +131,7 @@ kept w big s inv fs same = record {
   only27 = λ call f e. subst (λ (gs : Files). Only27 s gs call) (fun_ext same) (only-27 s call f) e;
   goes = goes_on w big s inv;
   costs = λ call ch e. (let h = ends w big s inv call ch e in (h.least, h.programs, h.erases));
+  collects = λ e. (let c = collects w big s inv e in ((c.block, c.copies'), c.is, c.few, pair_of c.out.programs c.out.erases));
   finds = λ call ch e. (ends w big s inv call ch e).finds;
   takes = takes-on w big s inv;
   powered = inv.powered;

@@ -6,7 +6,7 @@ use Rattle.rules.specs.Records.{is_blank}
 use Rattle.rules.specs.Reading.{files, present, Files, used_by}
 use Rattle.rules.specs.Places.{Flash, Act, adding, copying, erasing, runs, programmed, load, clean, to_clean, add_place, counts, does}
 use Rattle.rules.specs.Mounting.{mounted, verdict, limit}
-use Rattle.rules.specs.Calls.{Call, record_of}
+use Rattle.rules.specs.Calls.{Call, collect, record_of}
 use Rattle.rules.specs.Right.{accepted, after, right}
 use Rattle.rules.specs.Refusals.{Store, recs, is_open, first_of, early_table, refusal}
 use Rattle.rules.specs.Safety.{BlankTail}
@@ -84,6 +84,8 @@ pub record Kept (w n p : ℕ) (rights : Files) (s : Store) : Type 0 where
   -- (c) a change not refused has 1 to P programs and at most two erases
   pub costs : (call : Call) → IsChange call → refusal s call ≡ 0
       → (1 ≤ (counts (acts_of w s.flash call)).0) × ((counts (acts_of w s.flash call)).0 ≤ p) × ((counts (acts_of w s.flash call)).1 ≤ 2)
+  -- collect answers a block and the number of its copies, fewer than P; that many programs it takes, and one erase
+  pub collects : refusal s collect ≡ 0 → (q : ℕ × ℕ) × (to_clean s.flash ≡ Some q) × (q.1 < p) × (counts (acts_of w s.flash collect) ≡ (q.1, 1))
   -- the change finds its place by the three rules, and its two counts are one and the loads of the blocks cleaned, and the number of those
   pub finds : (call : Call) → IsChange call → refusal s call ≡ 0 → Finds s.flash (acts_of w s.flash call) (record_of w (recs s) call)
   -- the chip refuses none of the acts
