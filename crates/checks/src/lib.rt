@@ -6,9 +6,11 @@
 #![tactic(auto)]
 
 mod changes;
+mod cleaning;
 mod files;
 mod rows;
 mod telling;
 
 pub use changes::{create, cut, put, rename};
+pub use cleaning::collect;
 pub use files::{delete, open};

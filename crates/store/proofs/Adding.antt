@@ -78,16 +78,18 @@ module _ {s : State} {x : Index} {on : Bool} {held : List Bool} {call : Call} {r
     pub same_names : names_in y ≡ names_in x
     same_names = all.beside.same_names
 
+    step : Step 2048 (old s x held) call (counted c.programs c.erases) (store_of t true held (vec_items y.standings))
+    step = stepped s x held a.knows a.present call free t y all.beside.same_n all.beside.same_p all.tells made a.change c.programs c.erases (sym (ap counts planned) ∙ (h tells taken).1)
+
     pub step_done : Step 2048 (store_of s on held (vec_items x.standings)) call (counted c.programs c.erases) (store_of t true held (vec_items y.standings))
     step_done =
-        subst (λ (b : Bool). Step 2048 (store_of s b held (vec_items x.standings)) call (counted c.programs c.erases) (store_of t true held (vec_items y.standings))) (sym a.running)
-        (stepped s x held a.knows a.present call a.change free t y all.beside.same_n all.beside.same_p all.tells made c.programs c.erases (sym (ap counts planned) ∙ (h tells taken).1))
+        subst (λ (b : Bool). Step 2048 (store_of s b held (vec_items x.standings)) call (counted c.programs c.erases) (store_of t true held (vec_items y.standings))) (sym a.running) step
 
     pub stands_still : ∥ StandsSo t y ∥₁
-    stands_still = stands_after s x held a.knows a.present call a.change free t y all.beside.same_n all.beside.same_p all.tells made a.stands
+    stands_still = stands_after s x held a.knows a.present call free t y all.beside.same_n all.beside.same_p all.tells made (counted c.programs c.erases) step refl a.stands
 
     pub present_still : OpenPresent t held
-    present_still = present_after s x held a.knows a.present call a.change free t y all.beside.same_n all.beside.same_p all.tells made a.stands
+    present_still = present_after s x held a.knows a.present call free t y all.beside.same_n all.beside.same_p all.tells made (counted c.programs c.erases) step refl a.stands
 
     module _ (z : Index) (q : Renamed y z) where
       tells_too : Tells t z
@@ -101,8 +103,11 @@ module _ {s : State} {x : Index} {on : Bool} {held : List Bool} {call : Call} {r
       made_too : flash_of t z ≡ runs (flash_of s x) (acts_of 2048 (flash_of s x) call)
       made_too = rw (q.sizes, q.stands) made
 
+      step_too : Step 2048 (old s x held) call (counted c.programs c.erases) (store_of t true held (vec_items z.standings))
+      step_too = stepped s x held a.knows a.present call free t z all.beside.same_n all.beside.same_p tells_too made_too a.change c.programs c.erases (sym (ap counts planned) ∙ (h tells taken).1)
+
       pub knows_still : Mirrors (names_in z) (accepted (files (standing (blocks_of s))) call) → Knows (view_of t) z
-      knows_still named = knows_after s x held a.knows a.present call a.change free t z all.beside.same_n all.beside.same_p tells_too made_too a.stands named
+      knows_still named = knows_after s x held a.knows a.present call free t z all.beside.same_n all.beside.same_p tells_too made_too (counted c.programs c.erases) step_too refl a.stands named
 
   module _ (f : Fault) (t : State) (y : Index) (h : AddPlayed s x r (Err f) t y) where
     stopped : BrokenAt s x (acts_to_add (flash_of s x) r) f t y

@@ -1,5 +1,5 @@
--- A change played on a running store: it is the rules' step, and what the type says of a running store holds after it. Assumes nothing.
-use Rattle.std.proofs.Common.{◌≡◌, ℕ, Bool, true, List, [], ◌∷◌, length, take, vec_items, refl, sym, ap, ◌∙◌, subst, inl, inr, arith}
+-- A change or a collect played on a running store: it is the rules' step, and what the type says of a running store holds after it. Assumes nothing.
+use Rattle.std.proofs.Common.{◌≡◌, ℕ, Bool, true, List, [], ◌∷◌, length, take, Some, vec_items, refl, sym, ap, ◌∙◌, subst, inl, inr, arith}
 use Rattle.std.proofs.Math.Logic.{∥∥₁_elim, ∥∥₁_map}
 use Rattle.std.proofs.Props.{props}
 use Rattle.std.proofs.lemmas.Bool.{and_from, eq-eqb}
@@ -9,12 +9,12 @@ use Rattle.flash.specs.Model.{State, blocks_of, view_of}
 use Rattle.names.specs.Names.{Mirrors, name_if}
 use Rattle.rules.specs.Calls.{Call}
 use Rattle.rules.specs.Lists.{Among}
-use Rattle.rules.specs.Machine.{IsChange, acts_of, Step, counted, with_flash}
+use Rattle.rules.specs.Machine.{Answer, IsChange, IsCollect, acts_of, Step, counted, collected, taken, with_flash}
 use Rattle.rules.specs.Mounting.{sizes_fit}
-use Rattle.rules.specs.Places.{Flash, Act, adding, copying, erasing, runs, counts, does}
+use Rattle.rules.specs.Places.{Flash, Act, adding, copying, erasing, runs, counts, to_clean, does}
 use Rattle.rules.specs.Reading.{files}
 use Rattle.rules.specs.Refusals.{Store, refusal}
-use Rattle.rules.specs.Right.{accepted}
+use Rattle.rules.specs.Right.{accepted, after}
 use Rattle.rules.specs.Runs.{Stands, Holds, Rightly, TakesAll}
 use Rattle.rules.proofs.Whole.{steps-are-right, holding-suffices}
 use Rattle.scan.specs.declared.indexes.Index.{Index}
@@ -64,8 +64,8 @@ module _ (s : State) (x : Index) (held : List Bool) where
         ∥∥₁_elim st (takes-prop s.n s.p (flash_of s x) (acts_of 2048 (flash_of s x) call))
         (λ z. subst (λ (f : Flash). TakesAll s.n s.p f (acts_of 2048 f call)) flash_told ((holding-suffices 2048 (omega arith) old (holds z)).takes call e))
 
-    -- after a change: the index tells of the chip, whose contents and standings are what the acts make of them
-    module _ (call : Call) (ch : IsChange call) (free : refusal old call ≡ 0) (t : State) (y : Index) (n : t.n ≡ s.n) (p : t.p ≡ s.p) (tells : Tells t y)
+    -- after a call whose acts are done: the index tells of the chip, whose contents and standings are what the acts make of them
+    module _ (call : Call) (free : refusal old call ≡ 0) (t : State) (y : Index) (n : t.n ≡ s.n) (p : t.p ≡ s.p) (tells : Tells t y)
         (made : flash_of t y ≡ runs (flash_of s x) (acts_of 2048 (flash_of s x) call)) where
       abbrev new : Store
       new = store_of t true held (vec_items y.standings)
@@ -78,30 +78,37 @@ module _ (s : State) (x : Index) (held : List Bool) where
           same_store _ _ _ _ _ _ true (held_at held) _ _ n p (tells.on ∙ sym k.on)
           (flash_new ∙ made ∙ ap (λ (f : Flash). runs f (acts_of 2048 f call)) (sym flash_told))
 
-      pub stepped : (a b : ℕ) → counts (acts_of 2048 (flash_of s x) call) ≡ (a, b) → Step 2048 old call (counted a b) new
-      stepped a b e = (ch, free, ap (λ (f : Flash). counts (acts_of 2048 f call)) flash_told ∙ e, new_is)
+      pub stepped : IsChange call → (a b : ℕ) → counts (acts_of 2048 (flash_of s x) call) ≡ (a, b) → Step 2048 old call (counted a b) new
+      stepped ch a b e = (ch, free, ap (λ (f : Flash). counts (acts_of 2048 f call)) flash_told ∙ e, new_is)
 
-      rightly : StandsSo s x → Rightly 2048 old call (counted (counts (acts_of 2048 (flash_of s x) call)).0 (counts (acts_of 2048 (flash_of s x) call)).1) new
-      rightly st = steps-are-right 2048 (omega arith) old new call _ (holds st) (stepped _ _ refl)
+      pub gathered : IsCollect call → (b c : ℕ) → to_clean (flash_of s x) ≡ Some (b, c) → Step 2048 old call (collected b c) new
+      gathered co b c e = (co, free, ap to_clean flash_told ∙ e, new_is)
 
-      -- so the index knows the chip, if its names are those of the files
-      knows_from : StandsSo s x → Mirrors (names_in y) (accepted (files (standing (blocks_of s))) call) → Knows (view_of t) y
-      knows_from st named = record {
-        on = tells.on;
-        blocks = tells.blocks;
-        chunks = tells.chunks;
-        sizes = ap (λ (i : ℕ). sizes_fit i t.p) n ∙ ap (sizes_fit s.n) p ∙ k.sizes;
-        mirror = tells.mirror;
-        whole = whole_from (standing (blocks_of t)) (rightly st).holds'.shaped.bytes';
-        accepted = (rightly st).holds'.mounts;
-        named = λ o l u. named o l u ∙ ap name_if (sym ((rightly st).rightly o));
-      }
+      module _ (answer : Answer) (step : Step 2048 old call answer new) (yes : taken 2048 old call answer new ≡ true) where
+        rightly : StandsSo s x → Rightly 2048 old call answer new
+        rightly st = steps-are-right 2048 (omega arith) old new call answer (holds st) step
 
-      pub knows_after : ∥ StandsSo s x ∥₁ → Mirrors (names_in y) (accepted (files (standing (blocks_of s))) call) → Knows (view_of t) y
-      knows_after st named = ∥∥₁_elim st (hlevel props) (λ z. knows_from z named)
+        files_after : StandsSo s x → (o : ℕ) → files (standing (blocks_of t)) o ≡ accepted (files (standing (blocks_of s))) call o
+        files_after st o = (rightly st).rightly o ∙ ap (λ (b : Bool). after (files (standing (blocks_of s))) (record { call = call; taken = b }) o) yes
 
-      pub stands_after : ∥ StandsSo s x ∥₁ → ∥ StandsSo t y ∥₁
-      stands_after st = ∥∥₁_map st (λ z. subst (λ (f : Flash). Stands t.n t.p f) flash_new ((rightly z).holds'.stands refl))
+        -- so the index knows the chip, if its names are those of the files
+        knows_from : StandsSo s x → Mirrors (names_in y) (accepted (files (standing (blocks_of s))) call) → Knows (view_of t) y
+        knows_from st named = record {
+          on = tells.on;
+          blocks = tells.blocks;
+          chunks = tells.chunks;
+          sizes = ap (λ (i : ℕ). sizes_fit i t.p) n ∙ ap (sizes_fit s.n) p ∙ k.sizes;
+          mirror = tells.mirror;
+          whole = whole_from (standing (blocks_of t)) (rightly st).holds'.shaped.bytes';
+          accepted = (rightly st).holds'.mounts;
+          named = λ o l u. named o l u ∙ ap name_if (sym (files_after st o));
+        }
 
-      pub present_after : ∥ StandsSo s x ∥₁ → OpenPresent t held
-      present_after st o h = ∥∥₁_elim st (hlevel props) (λ z. (rightly z).holds'.held refl o h)
+        pub knows_after : ∥ StandsSo s x ∥₁ → Mirrors (names_in y) (accepted (files (standing (blocks_of s))) call) → Knows (view_of t) y
+        knows_after st named = ∥∥₁_elim st (hlevel props) (λ z. knows_from z named)
+
+        pub stands_after : ∥ StandsSo s x ∥₁ → ∥ StandsSo t y ∥₁
+        stands_after st = ∥∥₁_map st (λ z. subst (λ (f : Flash). Stands t.n t.p f) flash_new ((rightly z).holds'.stands refl))
+
+        pub present_after : ∥ StandsSo s x ∥₁ → OpenPresent t held
+        present_after st o h = ∥∥₁_elim st (hlevel props) (λ z. (rightly z).holds'.held refl o h)

@@ -4,5 +4,9 @@ pub mod Running
 pub mod Changing
 pub mod Adding
 pub mod Checked
+pub mod Asked
+pub mod Collects
 pub mod Opening
 pub mod Serials
+pub mod Makes
+pub mod Lasting

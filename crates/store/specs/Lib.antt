@@ -3,3 +3,5 @@ pub mod Stored
 pub mod Running
 pub mod Changes
 pub mod Opening
+pub mod Making
+pub mod Asked

@@ -3,6 +3,7 @@ ghost use Rattle.flash.specs.Model.{view_of};
 ghost use Rattle.rules.specs.Refusals.{size_table};
 ghost use Rattle.scan.specs.declared.refusals.Refusal.TheVariants.{Stopped};
 ghost use Rattle.scan.specs.Indexes.{stands_in, Knows};
+ghost use Rattle.checks.specs.Checks.{Runs};
 ghost use Rattle.questions.specs.Counts.{Counted};
 ghost use Rattle.questions.specs.Questions.{Answered, OfFile, FindAnswered, SizeAnswered, ReadAnswered, ListAnswered};
 ghost use Rattle.store.specs.Stores.{running_table};
@@ -17,7 +18,8 @@ use scan::{Index, Refusal};
 impl<C: Chip> Store<C> {
     // What is known of the chip, while the store runs.
     pub(crate) fn known(&self) -> Result<&Index, Refusal>
-        ensures { MatchResult result (λ x. (self.now.running ≡ true) × (x.now ≡ self.now.index) × Knows (view_of (C.Chip.model self.now.chip)) self.now.index) (λ e. (self.now.running ≡ false) × (e ≡ Stopped)) }
+        ensures runs { MatchResult result (λ x. Runs (stored self.now) x.now) (λ e. Unit {0}) }
+        ensures known { MatchResult result (λ x. (self.now.running ≡ true) × (x.now ≡ self.now.index) × Knows (view_of (C.Chip.model self.now.chip)) self.now.index) (λ e. (self.now.running ≡ false) × (e ≡ Stopped)) }
     {
         if !self.running {
             return Err(Refusal::Stopped);

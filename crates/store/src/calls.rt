@@ -1,6 +1,7 @@
 ghost use Rattle.std.specs.Prelude.{◌≡◌, true, false, MatchResult};
 ghost use Rattle.flash.specs.Model.{started, blocks_of};
 ghost use Rattle.rules.specs.Mounting.{verdict, mounted};
+ghost use Rattle.rules.specs.Runs.{Holds};
 ghost use Rattle.scan.specs.Formats.{Formatted};
 ghost use Rattle.scan.specs.Mounts.{verdict_of, runs};
 ghost use Rattle.store.specs.Stores.{NoneHeld, LeftByMount};
@@ -33,6 +34,12 @@ impl<C: Chip> Store<C> {
             running: false,
         })
     }
+
+    // States a law, and does nothing: while a store runs, what the law of whole runs asks of it holds.
+    #[tactic(auto, using(crate::proofs::Lasting::holds_running))]
+    pub fn holds(&self)
+        ensures { self.now.running ≡ true → ∥ Holds 2048 (stored self.now) ∥₁ }
+    {}
 
     // Ends the store and gives the chip back.
     pub fn release(self) -> C

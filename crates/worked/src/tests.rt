@@ -1,4 +1,5 @@
 mod cases;
 mod chips;
+mod making;
 mod refusals;
 mod tickets;
