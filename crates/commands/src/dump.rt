@@ -1,19 +1,11 @@
-ghost use Rattle.texts.specs.Texts.{Adds};
-ghost use Rattle.commands.specs.Dumps.{head_line, Dumped};
+ghost use Rattle.commands.specs.Dumps.{Dumped};
 
-use flash::{Chip, Sizes};
+use flash::Chip;
 use image::ImageChip;
 use lines::chunks::chip_lines;
-use std::alloc::{AllocError, Global};
+use lines::heads::head_line;
+use std::alloc::Global;
 use texts::stops::Stop;
-
-fn head_line(out: &mut String, sizes: Sizes, on: bool) -> Result<(), AllocError>
-    ensures { Adds out.old (head_line sizes.blocks sizes.chunks on) result out.new }
-{
-    let Sizes { blocks, chunks } = sizes;
-    let power = if on { "on" } else { "off" };
-    writeln!(out, "{blocks} blocks of {chunks} chunks, {power}")
-}
 
 // What the chip in an image is: sizes and power, and a line for each chunk. An image that is off is read all the same.
 pub fn dump(heap: Global, bytes: Vec<u8>) -> Result<String, Stop>

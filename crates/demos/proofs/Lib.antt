@@ -1,1 +1,3 @@
-pub mod Telling
+pub mod Lines
+pub mod Mounting
+pub mod Playing

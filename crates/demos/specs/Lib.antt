@@ -1,3 +1,3 @@
-pub mod Records
-pub mod Steps
+pub mod Story
+pub mod Telling
 pub mod Demos

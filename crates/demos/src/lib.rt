@@ -1,9 +1,9 @@
-// The demonstration: steps on a chip in memory whose supply fails, and what is told of each. It touches
+// The demonstration: calls on a store whose chip is in memory and whose supply fails, and what is told of each. It touches
 // no file and prints nothing.
 #![tactic(auto)]
 
 pub mod demo;
-mod play;
-mod records;
-mod steps;
+mod filing;
+mod scenes;
 mod story;
+mod telling;

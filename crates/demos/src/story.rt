@@ -1,94 +1,93 @@
-use crate::records::{cut_header, data_chunk};
-use crate::steps::Step;
-use crate::steps::Step::{Erase, Fetch, LookAll, Program, Restart, Say};
+ghost use Rattle.std.specs.Prelude.{◌≡◌, map};
+ghost use Rattle.rules.specs.Calls.{put};
+ghost use Rattle.store.specs.Making.{call_told};
+ghost use Rattle.demos.specs.Story.{first_calls, second_calls};
+
 use bench::Plan;
-use flash::Purpose::{Adding, Copying};
-use flash::{Place, Record};
+use runs::Call;
+use store::Object;
 
-// The story of the demonstration: a tester keeps a netlist on its flash chip, and the supply fails twice.
+// The story of the demonstration: a tester cuts a wrong verdict away, and the supply fails in the cleaning that would
+// have erased it.
 
-// The third act fails, and leaves chunk 2 damaged.
-pub(crate) const WRITING: Plan = Plan {
-    fails: 3,
-    damages: 0b0100,
-    takes: 0,
+// The tenth act fails. It is an erase, and leaves chunk 2 of its block as it was and the others blank.
+pub(crate) const PLAN: Plan = Plan {
+    fails: 10,
+    damages: 0,
+    takes: 0b1011,
 };
 
-// The fourth act fails, and leaves chunk 0 as it was, chunk 1 blank and chunk 3 damaged.
-pub(crate) const ERASING: Plan = Plan {
-    fails: 4,
-    damages: 0b1000,
-    takes: 0b0010,
-};
-
-fn header() -> Record {
-    cut_header(257, 0, 1, b"adder.net")
+fn put(file: Object, number: u32, bytes: &'static [u8]) -> Call<'static>
+    ensures { call_told result ≡ put file.number number bytes.now }
+{
+    Call::Put {
+        file,
+        number,
+        bytes,
+    }
 }
 
-fn first_chunk() -> Record {
-    data_chunk(257, 1, 2, b"XOR a b sum\n")
-}
-
-fn second_chunk() -> Record {
-    data_chunk(257, 2, 3, b"AND a b carry\n")
-}
-
-// The supply fails while the file is written.
-pub(crate) fn writing() -> [Step; 22] {
+// The calls up to the failure.
+pub(crate) fn first(file: Object) -> [Call<'static>; 10]
+    ensures { map call_told result ≡ first_calls file.number }
+{
+    let object = file.number();
     [
-        Say(
-            "A tester keeps netlists on a flash chip of 3 blocks with 4 chunks each. The chip is blank and off, and",
-        ),
-        Say(
-            "its supply will fail in the third act. An act is a program or an erase that passes the chip's checks.",
-        ),
-        Say(""),
-        Say(
-            "The tester creates the file adder.net, object 257, but has to switch the chip on first:",
-        ),
-        Program(Adding, Place::new(0, 0), header()),
-        Restart,
-        Program(Adding, Place::new(0, 0), header()),
-        Say("It writes the netlist in two chunks of data, and the supply fails at the second:"),
-        Program(Adding, Place::new(0, 1), first_chunk()),
-        Program(Adding, Place::new(0, 2), second_chunk()),
-        Fetch(Place::new(0, 1)),
-        Say(
-            "The supply is back. The chunk that was being written is damaged, and all that was there before stands:",
-        ),
-        Restart,
-        LookAll,
-        Say("A chunk takes a record only if it and all later ones of its block are blank:"),
-        Program(Adding, Place::new(0, 2), second_chunk()),
-        Program(Adding, Place::new(0, 1), second_chunk()),
-        Program(Adding, Place::new(0, 3), second_chunk()),
-        Say("There is no block 3, and a damaged chunk has no record to fetch:"),
-        Program(Adding, Place::new(3, 0), second_chunk()),
-        Fetch(Place::new(0, 2)),
-        Fetch(Place::new(0, 3)),
+        Call::Create {
+            object,
+            name: b"adder.net",
+        },
+        Call::Open { object },
+        put(file, 1, b"rev 1: XOR a b sum"),
+        put(file, 2, b"FAIL at pin 7"),
+        Call::Cut { file, length: 1 },
+        put(file, 1, b"rev 2: XOR a c sum"),
+        put(file, 1, b"rev 3: XOR b c sum"),
+        put(file, 1, b"rev 4: XOR c b sum"),
+        put(file, 1, b"rev 5: XOR c a sum"),
+        put(file, 1, b"rev 6: XOR b a sum"),
     ]
 }
 
-// The supply fails while a block is erased.
-pub(crate) fn erasing() -> [Step; 14] {
+// The calls after it.
+pub(crate) fn second(file: Object) -> [Call<'static>; 4]
+    ensures { map call_told result ≡ second_calls file.number }
+{
+    let object = file.number();
     [
-        Say(""),
-        Say(
-            "The same chunks on another chip, again off, whose supply will fail in the fourth act. To clean block 0",
-        ),
-        Say(
-            "the tester copies its records to block 1 and then erases it, and the supply fails at the erase:",
-        ),
-        Restart,
-        Program(Copying, Place::new(1, 0), header()),
-        Program(Copying, Place::new(1, 1), first_chunk()),
-        Program(Copying, Place::new(1, 2), second_chunk()),
-        Erase(0),
-        Say("Each chunk of block 0 is as it was, damaged or blank, and no other block is touched:"),
-        Restart,
-        LookAll,
-        Say("A second erase goes through, and the file is whole in block 1:"),
-        Erase(0),
-        LookAll,
+        Call::Open { object },
+        put(file, 1, b"rev 6: XOR b a sum"),
+        Call::Close { file },
+        Call::Collect,
     ]
 }
+
+// What is said between the calls.
+
+pub(crate) const BEGINS: &str = "\
+A tester keeps a netlist on a flash chip of 3 blocks with 4 chunks each.
+The chip is blank and off, and its supply will fail in the tenth act. An act
+is a program or an erase that passes the chip's checks.
+
+The tester mounts the store, creates a file, and puts the netlist and a
+verdict. The verdict is wrong and is cut away, which fills block 0. Then the
+netlist is put again and again, until block 1 is full too. For the next put a
+block has to be cleaned, and the supply fails:
+";
+
+pub(crate) const FAILS: &str = "\n\
+The supply is back. The cut header of block 0 is copied to block 2, but the
+erase has left one record of block 0: the verdict that was cut away. While
+that header stands, the verdict stays hidden:
+";
+
+pub(crate) const GOES_ON: &str = "\n\
+The store is attached and mounted anew. The put that broke off is made again:
+block 0 is erased, block 1 is cleaned, and the record is programmed. Then one
+more block is cleaned:
+";
+
+pub(crate) const ENDS: &str = "\n\
+The files are right. The netlist is the one that was put last, and the
+verdict has not returned:
+";

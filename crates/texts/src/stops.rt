@@ -1,8 +1,9 @@
 ghost use Rattle.std.specs.Prelude.{◌≡◌, Some};
-ghost use Rattle.texts.specs.declared.stops.Stop.TheVariants.{Memory, Refused};
+ghost use Rattle.texts.specs.declared.stops.Stop.TheVariants.{Memory, Refused, Store};
 ghost use Rattle.texts.specs.Stops.{stop_text};
 
 use flash::{Misfit, Unmade};
+use scan::Refusal;
 use std::alloc::AllocError;
 use std::fmt;
 
@@ -10,7 +11,10 @@ use std::fmt;
 #[derive(Clone, Copy, PartialEq, Eq, Debug)]
 pub enum Stop {
     Memory,
+    // no chip could be made of the memory handed over
     Refused(Misfit),
+    // the store refused
+    Store(Refusal),
 }
 
 impl From<AllocError> for Stop {
@@ -30,12 +34,19 @@ impl From<fmt::Error> for Stop {
     }
 }
 
-// No chip could be made of the memory handed over.
 impl<C: Drop> From<Unmade<C>> for Stop {
     ghost from_gives = { λ u r. r ≡ Refused u.why };
 
     fn from(unmade: Unmade<C>) -> Stop {
         Self::Refused(unmade.why)
+    }
+}
+
+impl From<Refusal> for Stop {
+    ghost from_gives = { λ e r. r ≡ Store e };
+
+    fn from(why: Refusal) -> Stop {
+        Self::Store(why)
     }
 }
 
@@ -46,6 +57,7 @@ impl fmt::Display for Stop {
         match self {
             Stop::Memory => write!(f, "no memory is left"),
             Stop::Refused(why) => write!(f, "refused: {why}"),
+            Stop::Store(why) => write!(f, "refused: {why}"),
         }
     }
 }

@@ -1,79 +1,140 @@
 // The program: it takes the words, reads and writes files and prints. What its words mean is in `words`, and what
-// it computes in `commands` and `demos`.
+// it computes in `commands`, `files`, `edits`, `replays` and `demos`.
 #![tactic(auto)]
 
+mod changes;
+mod failures;
+mod images;
+mod streams;
+
+use crate::changes::{Teller, clean, edit};
+use crate::failures::{Failure, of_image};
+use crate::images::{Disk, create_file, read_file, replace_image};
+use crate::streams::{print, read_bytes, read_text, write_bytes};
 use commands::create::create;
 use commands::dump::dump;
 use demos::demo::demo;
-use std::fs::OpenOptions;
-use std::io::{ErrorKind, Write};
+use edits::collect::collect;
+use edits::cut::cut;
+use edits::put::put;
+use edits::remove::remove;
+use edits::rename::rename;
+use files::cat::cat;
+use files::format::format;
+use files::info::info;
+use files::ls::ls;
+use replays::replay;
 use std::process::ExitCode;
-use std::{env, fs, io};
+use std::{env, io};
 use texts::stops::Stop;
-use thiserror::Error;
-use words::parsing::{Command, Misuse, parse};
-use words::usage::help;
+use words::parsing::{Command, parse};
+use words::streams::Stream;
+use words::usage::{about, help};
 
-// Why the program does not do what its words ask for.
-#[derive(Debug, Drop, Error)]
-enum Failure<'a> {
-    #[error("{0}")]
-    Misuse(#[from] Misuse<'a>),
-    #[error("{0}")]
-    Stop(#[from] Stop),
-    #[error("{0}")]
-    Io(#[from] io::Error),
-    #[error("{path}: {stop}")]
-    Image { path: &'a str, stop: Stop },
-    #[error("cannot read {path}: {error}")]
-    Read { path: &'a str, error: io::Error },
-    #[error("cannot write {path}: {error}")]
-    Write { path: &'a str, error: io::Error },
-    #[error("{path} is there already and is not overwritten")]
-    Taken { path: &'a str },
-}
-
-// Writes a file that is not there yet.
-fn write_new(rt: &HostRuntime, path: &str, bytes: &[u8]) -> io::Result<()> {
-    let mut file = OpenOptions::new()
-        .write(true)
-        .create_new(true)
-        .open(rt, path)?;
-    file.write_all(bytes)
-}
-
-// The two numbers of 8 bits are those of the command, handed on.
-fn create_file<'a>(
+// Prints what is told of the image in a file.
+fn tell<'a>(
     rt: &HostRuntime,
-    path: &'a str,
-    blocks: u8,
-    chunks: u8,
+    file: &'a str,
+    told: Result<String, Stop>,
 ) -> Result<(), Failure<'a>> {
-    let bytes = create(rt.alloc(), blocks, chunks)?;
-    write_new(rt, path, &bytes).map_err(|error| match error.kind() {
-        ErrorKind::AlreadyExists => Failure::Taken { path },
-        _ => Failure::Write { path, error },
-    })
+    print(rt, of_image(file, told)?.as_bytes())
 }
 
-// What the image in a file holds.
-fn dump_file<'a>(rt: &HostRuntime, path: &'a str) -> Result<String, Failure<'a>> {
-    let bytes = fs::read(rt, path).map_err(|error| Failure::Read { path, error })?;
-    dump(rt.alloc(), bytes).map_err(|stop| Failure::Image { path, stop })
+// Bytes into a file of an image.
+fn put_bytes<'a>(
+    rt: &HostRuntime,
+    file: &'a str,
+    name: &str,
+    source: Stream<'a>,
+) -> Result<(), Failure<'a>> {
+    let image = read_file(rt, file)?;
+    let content = read_bytes(rt, source)?;
+    let made = put(
+        rt.alloc(),
+        image,
+        name.as_bytes(),
+        &content,
+        &mut Teller { rt },
+    );
+    edit(rt, file, made)
+}
+
+// Bytes of a file of an image.
+fn part<'a>(
+    rt: &HostRuntime,
+    file: &'a str,
+    name: &str,
+    from: u64,
+    count: Option<u64>,
+) -> Result<Vec<u8>, Failure<'a>> {
+    let image = read_file(rt, file)?;
+    of_image(file, cat(rt.alloc(), image, name.as_bytes(), from, count))
+}
+
+// Prints the answers of a script.
+fn play<'a>(rt: &HostRuntime, script: Stream<'a>) -> Result<(), Failure<'a>> {
+    let calls = read_text(rt, script)?;
+    match replay(rt.alloc(), &calls, &mut Disk { rt }) {
+        Ok(answers) => print(rt, answers.as_bytes()),
+        Err(error) => Err(Stop::from(error).into()),
+    }
 }
 
 fn run<'a>(rt: &HostRuntime, words: &'a [String]) -> Result<(), Failure<'a>> {
-    let text = match parse(words)? {
-        Command::Help => help(rt.alloc())?,
-        Command::Demo => demo(rt.alloc())?,
+    let heap = rt.alloc();
+    match parse(words)? {
         Command::New {
             file,
             blocks,
             chunks,
-        } => return create_file(rt, file, blocks, chunks),
-        Command::Dump { file } => dump_file(rt, file)?,
-    };
-    Ok(print!(rt; "{text}")?)
+        } => create_file(rt, file, &create(heap, blocks, chunks)?),
+        Command::Put { file, name, source } => put_bytes(rt, file, name, source),
+        Command::Get { file, name, dest } => {
+            write_bytes(rt, dest, &part(rt, file, name, 0, None)?)
+        }
+        Command::Ls { file } => tell(rt, file, ls(heap, read_file(rt, file)?)),
+        Command::Cat {
+            file,
+            name,
+            from,
+            count,
+        } => {
+            let (from, count) = (u64::from(from), count.map(u64::from));
+            print(rt, &part(rt, file, name, from, count)?)
+        }
+        Command::Cut { file, name, length } => {
+            edit(
+                rt,
+                file,
+                cut(heap, read_file(rt, file)?, name.as_bytes(), length),
+            )
+        }
+        Command::Mv { file, name, new } => {
+            let (name, new) = (name.as_bytes(), new.as_bytes());
+            edit(rt, file, rename(heap, read_file(rt, file)?, name, new))
+        }
+        Command::Rm { file, name } => {
+            edit(
+                rt,
+                file,
+                remove(heap, read_file(rt, file)?, name.as_bytes()),
+            )
+        }
+        Command::Info { file } => tell(rt, file, info(heap, read_file(rt, file)?)),
+        Command::Dump { file } => tell(rt, file, dump(heap, read_file(rt, file)?)),
+        Command::Collect { file } => clean(rt, file, collect(heap, read_file(rt, file)?)),
+        Command::Format { file } => {
+            replace_image(
+                rt,
+                file,
+                &of_image(file, format(heap, read_file(rt, file)?))?,
+            )
+        }
+        Command::Replay { script } => play(rt, script),
+        Command::Demo => print(rt, demo(heap)?.as_bytes()),
+        Command::Help => print(rt, help(heap)?.as_bytes()),
+        Command::About { command } => print(rt, about(heap, command)?.as_bytes()),
+    }
 }
 
 fn arguments(rt: &HostRuntime) -> io::Result<Vec<String>> {

@@ -1,4 +1,4 @@
-// The tests of `words` and `commands`. They stand in a crate of their own, since a crate with tests is proved
+// The tests of `words`, `commands`, `files` and `edits`. They stand in a crate of their own, since a crate with tests is proved
 // twice; it touches nothing.
 #![tactic(auto)]
 

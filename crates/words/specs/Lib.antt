@@ -1,4 +1,5 @@
 pub mod Names
 pub mod Numbers
+pub mod Streams
 pub mod Parsing
 pub mod Usage

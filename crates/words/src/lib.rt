@@ -2,7 +2,8 @@
 // the help. It touches no file and prints nothing.
 #![tactic(auto)]
 
-pub mod names;
+pub mod naming;
 mod numbers;
 pub mod parsing;
+pub mod streams;
 pub mod usage;

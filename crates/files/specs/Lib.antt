@@ -1,0 +1,5 @@
+pub mod Answers
+pub mod Cat
+pub mod Formats
+pub mod Info
+pub mod Listing

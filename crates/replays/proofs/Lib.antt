@@ -1,0 +1,3 @@
+pub mod Padding
+pub mod Tickets
+pub mod Blanks

@@ -1,0 +1,5 @@
+mod files;
+mod misreads;
+mod shelves;
+mod tools;
+mod worked;
