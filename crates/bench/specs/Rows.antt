@@ -14,6 +14,18 @@ use Rattle.bench.specs.Acts.{Acted}
 abbrev pub AllBlank : List Chunk → Type 0
 AllBlank xs = (k : ℕ) → k < length xs → slice_index_or xs k Blank ≡ Blank
 
+-- the row of a place
+pub record IsRow (s : BenchChip) (q : Place) (i : ℕ) : Type 0 where
+  pub ready : s.on ≡ true
+  pub within : Within (state_of s) q
+  pub row_is : i ≡ q.block * s.sizes.chunks + q.chunk
+  pub block_fits : i + (s.sizes.chunks - q.chunk) ≤ vec_len s.rows
+
+-- the row, or what a look there would answer: 4 off, then 5 no such place
+abbrev pub FoundRow : BenchChip → Place → Result ℕ Fault → Type 0
+FoundRow s q (Ok i) = IsRow s q i
+FoundRow s q (Err f) = NotLooked (state_of s) q f
+
 -- the rows of a place and of all later ones of its block
 pub record AreRows (s : BenchChip) (q : Place) (r : Range ℕ) : Type 0 where
   pub ready : s.on ≡ true

@@ -17,13 +17,13 @@ impl Chip for BenchChip {
     }
 
     fn look(&self, at: Place) -> Result<Look, Fault> {
-        let rows = self.rows_from(at)?;
-        Ok(self.rows[rows.start].look())
+        let row = self.row(at)?;
+        Ok(self.rows[row].look())
     }
 
     fn fetch(&self, at: Place, buffer: &mut [u8; CHUNK_BYTES]) -> Result<(), Fault> {
-        let rows = self.rows_from(at)?;
-        let Chunk::Holds(record) = &self.rows[rows.start] else {
+        let row = self.row(at)?;
+        let Chunk::Holds(record) = &self.rows[row] else {
             return Err(Fault::NoRecord);
         };
         *buffer = record.bytes;
@@ -34,7 +34,8 @@ impl Chip for BenchChip {
         ensures rules { Programmed (state_of self.old) purpose at «record».now result (state_of self.new) }
         ensures plan { ByPlan self.old result self.new (ProgramActs self.old at «record».now self.new) }
     {
-        let Range { start, end } = self.rows_from(at)?;
+        let row = self.row(at)?;
+        let Range { start, end } = self.rows_from(row, at);
         if !all_blank(&self.rows[start..end]) {
             return Err(Fault::NotBlank);
         }

@@ -1,8 +1,8 @@
-ghost use Rattle.std.specs.Prelude.{◌≡◌, ◌<◌, ◌↔◌, true, false, IsTrue, MatchResult};
+ghost use Rattle.std.specs.Prelude.{◌≡◌, ◌<◌, ◌↔◌, true, false, IsTrue, MatchResult, Ok};
 ghost use Rattle.flash.specs.declared.chunks.Chunk.TheVariants.{Blank, Holds};
 ghost use Rattle.flash.specs.declared.faults.Fault.TheVariants.{SupplyFailed};
 ghost use Rattle.bench.specs.Acts.{due, left_in, Remade};
-ghost use Rattle.bench.specs.Rows.{AllBlank, Found, Counted};
+ghost use Rattle.bench.specs.Rows.{AllBlank, IsRow, FoundRow, Found, Counted};
 
 use crate::benches::BenchChip;
 use flash::{Act, Chunk, Fault, Place, Record};
@@ -17,11 +17,11 @@ pub(crate) fn all_blank(chunks: &[Chunk]) -> bool
 }
 
 impl BenchChip {
-    // The rows of a chunk and all later ones of its block, unless the chip is off or has no such place: here and in `erase`, as
-    // in `image`, two tests in the chip rules' order; `erase` asks for its block alone, and each chip for its own power.
+    // The row of a chunk, unless the chip is off or has no such place: here and in `erase`, as in `image`, two tests in the chip
+    // rules' order; `erase` asks for its block alone, and each chip for its own power.
     #[tactic(auto, using(std::proofs::lemmas::Nat::row_fits))]
-    pub(crate) fn rows_from(&self, at: Place) -> Result<Range<usize>, Fault>
-        ensures { Found self.now at result }
+    pub(crate) fn row(&self, at: Place) -> Result<usize, Fault>
+        ensures { FoundRow self.now at result }
     {
         if !self.on {
             return Err(Fault::Off);
@@ -29,9 +29,17 @@ impl BenchChip {
         if !self.sizes.has(at) {
             return Err(Fault::NoSuchPlace);
         }
-        let row = self.sizes.row(at);
+        Ok(self.sizes.row(at))
+    }
+
+    // The rows of a chunk and all later ones of its block. By itself: as an answer of `row`, a range goes through memory
+    // with every look, and a mount of a blank chip took twice the time.
+    pub(crate) fn rows_from(&self, row: usize, at: Place) -> Range<usize>
+        requires { IsRow self.now at row }
+        ensures { Found self.now at (Ok result) }
+    {
         let end = self.sizes.rows_of(at.block).end;
-        Ok(row..end)
+        row..end
     }
 
     // Whether the next act is the one that fails.

@@ -10,7 +10,7 @@ use Rattle.flash.specs.Model.{State}
 use Rattle.image.specs.Format.{misfit, well_made, powered, block_count, chunk_count, start_of, chunk_of, chip_of, no_chip, image_of}
 use Rattle.image.specs.declared.heads.Head.{Head}
 use Rattle.image.specs.Heads.{HeadOf}
-use Rattle.image.specs.Places.{Found, IsChunk}
+use Rattle.image.specs.Places.{Found, to_end, IsChunk}
 
 pub well-length : (xs : List ℕ) → well_made xs ≡ true → length xs ≡ 8 + block_count xs * chunk_count xs * 2065
 well-length xs h = grind (arith, nat_tests)
@@ -59,6 +59,12 @@ on-is xs w o = sym (o ∙ ap (λ (t : State). t.on) (image-is xs w))
 pub at-image : (P : State → Type 0) (xs : List ℕ) → well_made xs ≡ true → P (chip_of xs) → P (image_of xs)
 at-image P xs w h = subst P (sym (image-is xs w)) h
 
+-- a chunk that was found, with all later ones of its block
+pub to_rest : (xs : List ℕ) (q : Place) (i e : ℕ) (h : Head) → Found xs q (to_end xs q i) → HeadOf (image_of xs) h → e ≡ start_of h.chunks q.block h.chunks → Found xs q (record { start = i; end = e })
+to_rest xs q i e h f o n =
+    let p : h.chunks ≡ chunk_count xs = o.chunks ∙ ap (λ (t : State). t.p) (image-is xs f.well) in
+    subst (λ (k : ℕ). Found xs q (record { start = i; end = k })) (sym (n ∙ ap (λ (k : ℕ). start_of k q.block k) p)) f
+
 -- a chunk of an image that is on, and all later ones of its block
 pub found : (xs : List ℕ) (q : Place) (h : Head) (r : Range ℕ) → HeadOf (image_of xs) h → h.on ≡ true → q.block < h.blocks → q.chunk < h.chunks
     → r.start ≡ start_of h.chunks q.block q.chunk → r.end ≡ start_of h.chunks q.block h.chunks → Found xs q r
@@ -73,6 +79,10 @@ found xs q h r i o hb hc e f =
       end_is = f ∙ ap (λ (x : ℕ). start_of x q.block x) ec;
       room = omega (arith, f ∙ ap (λ (x : ℕ). start_of x q.block x) ec, block_room xs q.block t.well t.within);
     }
+
+pub found-at : (xs : List ℕ) (q : Place) (h : Head) (i : ℕ) → HeadOf (image_of xs) h → h.on ≡ true → q.block < h.blocks → q.chunk < h.chunks → i ≡ start_of h.chunks q.block q.chunk → Found xs q (to_end xs q i)
+found-at xs q h i o p hb hc e =
+    found xs q h (to_end xs q i) o p hb hc e (sym (ap (λ (x : ℕ). start_of x q.block x) (counted xs q.block h.blocks h.chunks o.blocks o.chunks hb).chunks))
 
 -- the bytes of a chunk
 pub is_chunk : (xs ys zs : List ℕ) (q : Place) (r : Range ℕ) → Found xs q r → zs ≡ xs → ys ≡ take 2065 (drop r.start zs) → IsChunk (image_of xs) q ys

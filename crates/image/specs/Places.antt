@@ -15,6 +15,10 @@ pub record Found (xs : List ℕ) (q : Place) (r : Range ℕ) : Type 0 where
   pub end_is : r.end ≡ start_of (chunk_count xs) q.block (chunk_count xs)
   pub room : r.end ≤ length xs
 
+-- from a byte on to the end of the place's block
+abbrev pub to_end : List ℕ → Place → ℕ → Range ℕ
+to_end xs q i = record { start = i; end = start_of (chunk_count xs) q.block (chunk_count xs) }
+
 -- the state bytes of these chunks say that all of them are blank
 abbrev pub AllBlank : List (List ℕ) → Type 0
 AllBlank xs = (k : ℕ) → k < length xs → slice_index (slice_index_or xs k []) 0 ≡ 255

@@ -3,19 +3,18 @@ ghost use Rattle.flash.specs.Model.{started};
 ghost use Rattle.flash.specs.Reads.{NotLooked};
 ghost use Rattle.flash.specs.Writes.{Programmed, Erased};
 ghost use Rattle.image.specs.Leaves.{bytes_of, state_of, ProgramLeaves, EraseLeaves, RestartLeaves};
-ghost use Rattle.image.specs.Places.{Found, IsChunk};
+ghost use Rattle.image.specs.Places.{Found, to_end, IsChunk};
 
-use crate::codes::{BLANK, CHUNK, RECORD, all_blank, code_of, copy_data, look_at};
+use crate::codes::{BLANK, CHUNK, RECORD, all_blank, copy_data, look_at, write};
 use crate::heads::{Head, ON};
 use crate::images::ImageChip;
 use flash::{CHUNK_BYTES, Chip, Fault, Look, Place, Purpose, Record, Sizes};
-use std::ops::Range;
 
 impl ImageChip {
-    // Where the bytes of a chunk and of all later ones of its block lie, if the chip is on and has it. The tests here and in
-    // `erase` are those of `bench`, as `BenchChip::rows_from` says.
-    fn find(&self, at: Place) -> Result<Range<usize>, Fault>
-        ensures { MatchResult result (λ r. Found (bytes_of self.now) at r) (λ f. NotLooked (state_of self.now) at f) }
+    // Where a chunk begins, if the chip is on and has it. The tests here and in `erase` are those of `bench`, as
+    // `BenchChip::row` says. A number: a range goes through memory with every look.
+    fn find(&self, at: Place) -> Result<usize, Fault>
+        ensures { MatchResult result (λ i. Found (bytes_of self.now) at (to_end (bytes_of self.now) at i)) (λ f. NotLooked (state_of self.now) at f) }
     {
         let head = self.head();
         if !head.on {
@@ -24,15 +23,15 @@ impl ImageChip {
         if !head.sizes().has(at) {
             return Err(Fault::NoSuchPlace);
         }
-        Ok(head.rest(at))
+        Ok(head.start_of(at))
     }
 
     // The bytes of a chunk, if the chip is on and has it.
     fn chunk(&self, at: Place) -> Result<&[u8; CHUNK], Fault>
         ensures { MatchResult result (λ ys. IsChunk (state_of self.now) at ys.now) (λ f. NotLooked (state_of self.now) at f) }
     {
-        let found = self.find(at)?;
-        Ok(self.bytes[found.start..].first_chunk().unwrap())
+        let start = self.find(at)?;
+        Ok(self.bytes[start..].first_chunk().unwrap())
     }
 
     // Marks the chunk that begins there as blank.
@@ -68,13 +67,14 @@ impl Chip for ImageChip {
         ensures rules { Programmed (state_of self.old) purpose at «record».now result (state_of self.new) }
         ensures bytes { ProgramLeaves self.old at «record».now result self.new }
     {
-        let Range { start, end } = self.find(at)?;
+        let start = self.find(at)?;
+        let end = self.head().rest(at).end;
         let (rest, _) = self.bytes[start..end].as_chunks();
         if !all_blank(rest) {
             return Err(Fault::NotBlank);
         }
         // Tried: first_chunk_mut, but a proof of what the bytes end as did not close.
-        self.bytes[start..start + CHUNK].copy_from_slice(&code_of(record));
+        write(record, &mut self.bytes[start..start + CHUNK]);
         Ok(())
     }
 

@@ -1,4 +1,4 @@
-ghost use Rattle.std.specs.Prelude.{◌≡◌, ◌+◌, ◌≤◌, ◌↔◌, IsTrue};
+ghost use Rattle.std.specs.Prelude.{◌≡◌, ◌+◌, ◌≤◌, ◌↔◌, IsTrue, length};
 ghost use Rattle.flash.specs.Chunks.{look_of, Whole, WholeChunk};
 ghost use Rattle.image.specs.Format.{le32, data_of, chunk_of};
 ghost use Rattle.image.specs.Codes.{code_of};
@@ -42,9 +42,10 @@ pub(crate) fn copy_data(chunk: &[u8; CHUNK], buffer: &mut [u8; CHUNK_BYTES])
     buffer.copy_from_slice(&chunk[DATA..CHUNK]);
 }
 
-// The bytes of a chunk that holds a record.
-pub(crate) fn code_of(record: &Record) -> [u8; CHUNK]
-    ensures value { result ≡ code_of «record».now }
+// Makes the bytes of a chunk those of a record, in place.
+pub(crate) fn write(record: &Record, chunk: &mut [u8])
+    requires { length chunk.old ≡ 2065 }
+    ensures value { chunk.new ≡ code_of «record».now }
     ensures whole { Whole «record».now }
 {
     let Record { tag, bytes } = record;
@@ -60,11 +61,9 @@ pub(crate) fn code_of(record: &Record) -> [u8; CHUNK]
         third.to_le_bytes(),
         serial.to_le_bytes(),
     ];
-    let mut chunk = [0; CHUNK];
     chunk[0] = RECORD;
     chunk[1..DATA].copy_from_slice(numbers.as_flattened());
-    chunk[DATA..].copy_from_slice(bytes);
-    chunk
+    chunk[DATA..CHUNK].copy_from_slice(bytes);
 }
 
 // Whether all these chunks are blank. One for `bench` and `scan` too would take the test with the slice, and so be `all`.
