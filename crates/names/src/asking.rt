@@ -59,17 +59,21 @@ impl Names {
         ensures files { (fs : Files) → Mirrors (entries_of self.now) fs → result ≡ two_named fs }
     {
         let mut entries = self.entries.iter().enumerate();
-        entries.any(|(place, entry)| self.is_shared(object_at(place), entry))
+        entries.any(|(place, entry)| self.is_repeated(place, entry))
     }
 
-    // Whether an object other than this one has the name that is this one's entry.
-    fn is_shared(&self, object: u32, entry: &Option<Name>) -> bool
-        ensures { Decides result ((name : List ℕ) × (entry.now ≡ Some name) × Taken (entries_of self.now) object name) }
+    // Whether a later object has the name that is this one's entry.
+    fn is_repeated(&self, place: usize, entry: &Option<Name>) -> bool
+        requires { place < 255 }
+        ensures { Decides result ((name : List ℕ) × (entry.now ≡ Some name) × (k : ℕ) × (257 + place < k) × (name_at (entries_of self.now) k ≡ Some name)) }
     {
         let Some(name) = entry else {
             return false;
         };
-        self.taken(object, name.as_slice())
+        let name = name.as_slice();
+        self.entries[place + 1..]
+            .iter()
+            .any(|later| has(later, name))
     }
 }
 

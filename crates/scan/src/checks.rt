@@ -52,7 +52,8 @@ impl<C: Chip> Entry<'_, '_, C> {
         if !kind_of(&self.tag).is_header() {
             return Ok(None);
         }
-        let data = self.data()?;
+        let mut data = [0; CHUNK_BYTES];
+        self.read(&mut data)?;
         if in_file(self.scan.rows, &self.tag) {
             names.note(object_of(&self.tag), &data);
         }

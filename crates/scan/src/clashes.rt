@@ -4,14 +4,18 @@ ghost use Rattle.scan.specs.Clashes.{Clash, DataAlike, ClashBefore, Clashed};
 ghost use Rattle.scan.specs.Tables.{row_of};
 
 use crate::tables::{Entry, Scan};
-use flash::{Chip, Fault, Place};
+use flash::{CHUNK_BYTES, Chip, Fault, Place};
 
 impl<C: Chip> Entry<'_, '_, C> {
     // Whether two records have the same data bytes. By itself: in `clashes_with` the buffers were cleared for every pair.
     fn same_data(&self, other: &Entry<'_, '_, C>) -> Result<bool, Fault>
         ensures { DataAlike (row_of (chip_of self.now.scan.now) self.now.row) (row_of (chip_of other.now.scan.now) other.now.row) result }
     {
-        Ok(self.data()? == other.data()?)
+        let mut first = [0; CHUNK_BYTES];
+        let mut second = [0; CHUNK_BYTES];
+        self.read(&mut first)?;
+        other.read(&mut second)?;
+        Ok(first == second)
     }
 
     // Whether two records with one serial are unlike.

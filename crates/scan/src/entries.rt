@@ -1,4 +1,5 @@
 ghost use Rattle.std.specs.Prelude.{◌≡◌, ◌<◌, length, None, slice_index_or, MatchOption};
+ghost use Rattle.std.specs.Result.{result_map_both};
 ghost use Rattle.flash.specs.declared.chunks.Look.TheVariants.{Blank};
 ghost use Rattle.scan.specs.Chips.{chip_of};
 ghost use Rattle.scan.specs.Tables.{tag_at, PlaceOf, DataOf};
@@ -31,12 +32,10 @@ impl<C: Chip> Entry<'_, '_, C> {
         place_of(self.row, self.scan.sizes)
     }
 
-    // The record's data bytes.
-    pub(crate) fn data(&self) -> Result<[u8; CHUNK_BYTES], Fault>
-        ensures { DataOf (chip_of self.now.scan.now) self.now.row self.now.tag result }
+    // Reads the record's data bytes, into a buffer: an array as the answer would be moved with every fetch.
+    pub(crate) fn read(&self, data: &mut [u8; CHUNK_BYTES]) -> Result<(), Fault>
+        ensures { DataOf (chip_of self.now.scan.now) self.now.row self.now.tag (result_map_both (λ _. «data».new) (λ f. f) result) }
     {
-        let mut data = [0; CHUNK_BYTES];
-        self.scan.chip.fetch(self.place(), &mut data)?;
-        Ok(data)
+        self.scan.chip.fetch(self.place(), data)
     }
 }

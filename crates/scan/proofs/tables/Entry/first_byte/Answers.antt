@@ -16,9 +16,9 @@ returns g c =
     let e = c.args.self.now in
     let rows = e.scan.now.rows.now in
     let before = entries_of c.args.names.now in
-    let n : NotedIf rows e.tag c.in_ok-data.data before (entries_of c.if-in_file.names) =
+    let n : NotedIf rows e.tag c.read.new.data before (entries_of c.if-in_file.names) =
     elim c.if-in_file.branch [
       | then-in_file w ↦ (λ o. rw (w.names-is, ← w.if-in_file.ensures, ← w.object_of.ensures) (w.note.ensures o))
       | else-in_file w ↦ (λ o. rw (w.names-is, ← w.if-in_file.ensures) refl)
     ] in
-    header-first _ rows e.row e.tag before c.is_header.result (c.is_header.ensures ∙ ap is_header c.kind_of.ensures) c.in_ok-data.data (entries_of c.if-in_file.names) c.in_ok-data.ensures c.if-not-is_header.false n
+    header-first _ rows e.row e.tag before c.is_header.result (c.is_header.ensures ∙ ap is_header c.kind_of.ensures) c.read.new.data (entries_of c.if-in_file.names) c.in_ok-read.ensures c.if-not-is_header.false n
