@@ -6,7 +6,7 @@ ghost use Rattle.reading.specs.Sizes.{length_of, size_of};
 ghost use Rattle.questions.specs.Lists.{narrowed, size_answer, row_by, table_rows};
 
 use flash::Look;
-use reading::{length, present, size};
+use reading::{length, present, size, size_by};
 use rules::{FIRST_OBJECT, LAST_OBJECT, Row, is_object};
 use scan::Refusal;
 
@@ -42,10 +42,11 @@ pub(crate) fn count_rows(looks: &[Look]) -> usize
 fn row_of(looks: &[Look], object: u32) -> Option<Row>
     ensures { result ≡ row_by object (length_of (records looks.now) object) (size_of (records looks.now) object) }
 {
+    let length = length(looks, object)?;
     Some(Row {
         object,
-        length: length(looks, object)?,
-        size: narrow(size(looks, object)?),
+        length,
+        size: narrow(size_by(looks, object, length)),
     })
 }
 

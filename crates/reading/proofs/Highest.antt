@@ -1,5 +1,6 @@
 -- A chunk number is there exactly if some data record of its object and number is not hidden. Assumes nothing.
 use Rattle.std.proofs.Common.{◌≡◌, ℕ, ◌≤◌, max, Bool, true, false, cond, not, ◌&&◌, eqb, ltb, List, [], ◌∷◌, get_or, Some, None, Option, sym, refl, ap, ◌∙◌, inl, inr, arith}
+use mathlib.Core.Path.{fun_ext}
 use Rattle.std.proofs.Math.Nat.{max-zero, zero-max}
 use Rattle.std.specs.List.{filter_map, cons_option, fold, reduce}
 use Rattle.std.specs.Option.{unwrap_or}
@@ -16,7 +17,7 @@ use Rattle.rules.proofs.Views.{Hides, DataOf, data-view, data-from, hidden-view,
 use Rattle.rules.proofs.Removal.{highest-most, highest-least}
 use Rattle.tags.specs.Bare.{records}
 use Rattle.tags.proofs.Scans.{largest-tags}
-use Rattle.reading.specs.Hiders.{shown_by}
+use Rattle.reading.specs.Hiders.{shown_number, shown_by}
 
 -- what hides the newest of a number hides every older one of it
 older-hidden : (o j : ℕ) (h n d : Record) → DataOf o j n → DataOf o j d → d.tag.serial ≤ n.tag.serial → Hides h n → Hides h d
@@ -50,7 +51,32 @@ module _ (rs : List Record) (o j : ℕ) where
       go None w e' = absurd (both_ways false refl e')
       go (Some n) w e' = (n, w.stands, data-view o j n w.passes, at n (hidden rs n) refl e')
 
--- so the highest is the largest number of a data record that is not hidden, by any array that tells which are
+-- so the highest is the largest number of a data record that is not hidden
+shown-at-most : (rs : List Record) (o : ℕ) (r : Record) → Among r rs → shown_number rs o r ≤ highest_chunk rs o
+unfolding kind
+shown-at-most rs o r a =
+    cond_both (eqb (object r) o && (is_data (kind r) && not (hidden rs r))) r.tag.first 0 (λ z. z ≤ highest_chunk rs o)
+    (λ e.
+    let p = and_parts (eqb (object r) o) _ e in
+    let q = and_parts (is_data (kind r)) _ p.1 in
+    highest-most rs o r.tag.first (there-from rs o r.tag.first r a (record { of = eqb-true _ _ p.0; isdata = q.0; at = refl }) (not-true _ q.1)))
+    (λ e. omega arith)
+
+shown-number : (rs : List Record) (o j : ℕ) (d : Record) → DataOf o j d → hidden rs d ≡ false → shown_number rs o d ≡ j
+unfolding kind
+shown-number rs o j d v e =
+    cond-true (eqb (object d) o && (is_data (kind d) && not (hidden rs d))) d.tag.first 0 (and_from _ _ (eq-eqb _ _ v.of) (and_from _ _ v.isdata (not_from_false _ e)))
+    ∙ v.at
+
+highest-shown : (rs : List Record) (o : ℕ) → largest (shown_number rs o) rs ≡ highest_chunk rs o
+highest-shown rs o =
+    omega (
+      arith,
+      largest-least (shown_number rs o) rs (highest_chunk rs o) (shown-at-most rs o),
+      highest-least rs o (largest (shown_number rs o) rs) (λ j e. let x = shown-from rs o j e in omega (arith, shown-number rs o j x.0 x.2 x.3, largest-most (shown_number rs o) rs x.0 x.1)),
+    )
+
+-- and so it is by any array that tells which records are hidden
 module _ (rs : List Record) (o : ℕ) (hiders : List ℕ) (tells : (d : Record) → object d ≡ o → is_data (kind d) ≡ true → hidden rs d ≡ ltb d.tag.serial (get_or hiders d.tag.first 0)) where
   abbrev pub Shown : Tag → Option ℕ
   Shown = shown_by hiders o
@@ -58,31 +84,22 @@ module _ (rs : List Record) (o : ℕ) (hiders : List ℕ) (tells : (d : Record) 
   abbrev Number : Record → ℕ
   Number r = unwrap_or (Shown r.tag) 0
 
-  number-at-most : (r : Record) → Among r rs → Number r ≤ highest_chunk rs o
+  shown-same : (r : Record) → Number r ≡ shown_number rs o r
   unfolding object kind
-  number-at-most r a =
-      cond_both (eqb (object r) o && (is_data (kind r) && not (ltb r.tag.serial (get_or hiders r.tag.first 0)))) (Some r.tag.first) None (λ m. unwrap_or m 0 ≤ highest_chunk rs o)
-      (λ e.
-      let p = and_parts (eqb (object r) o) _ e in
-      let q = and_parts (is_data (kind r)) _ p.1 in
-      let v : DataOf o r.tag.first r = record { of = eqb-true _ _ p.0; isdata = q.0; at = refl } in
-      highest-most rs o r.tag.first (there-from rs o r.tag.first r a v (tells r v.of v.isdata ∙ not-true _ q.1)))
-      (λ e. omega arith)
+  shown-same r = go (eqb (object r) o) refl (is_data (kind r)) refl
+    where
+      at : (h : Bool) → unwrap_or (cond (not h) (Some r.tag.first) None) 0 ≡ cond (not h) r.tag.first 0
+      at true = refl
+      at false = refl
 
-  number-is : (j : ℕ) (d : Record) → DataOf o j d → hidden rs d ≡ false → Number d ≡ j
-  unfolding object kind
-  number-is j d v e =
-      ap (λ (m : Option ℕ). unwrap_or m 0) (cond-true (eqb (object d) o && (is_data (kind d) && not (ltb d.tag.serial (get_or hiders d.tag.first 0)))) (Some d.tag.first) None
-      (and_from _ _ (eq-eqb _ _ v.of) (and_from _ _ v.isdata (not_from_false _ (sym (tells d v.of v.isdata) ∙ e)))))
-      ∙ v.at
+      go : (b : Bool) → eqb (object r) o ≡ b → (c : Bool) → is_data (kind r) ≡ c
+          → unwrap_or (cond (b && (c && not (ltb r.tag.serial (get_or hiders r.tag.first 0)))) (Some r.tag.first) None) 0 ≡ cond (b && (c && not (hidden rs r))) r.tag.first 0
+      go false e c f = refl
+      go true e false f = refl
+      go true e true f = at (ltb r.tag.serial (get_or hiders r.tag.first 0)) ∙ ap (λ (x : Bool). cond (not x) r.tag.first 0) (sym (tells r (eqb-true _ _ e) f))
 
   pub highest-by-hiders : largest Number rs ≡ highest_chunk rs o
-  highest-by-hiders =
-      omega (
-        arith,
-        largest-least Number rs (highest_chunk rs o) number-at-most,
-        highest-least rs o (largest Number rs) (λ j e. let x = shown-from rs o j e in omega (arith, number-is j x.0 x.2 x.3, largest-most Number rs x.0 x.1)),
-      )
+  highest-by-hiders = ap (λ (f : Record → ℕ). largest f rs) (fun_ext shown-same) ∙ highest-shown rs o
 
 -- and that is the largest of the numbers that there are
 module _ (shown : Tag → Option ℕ) where

@@ -1,4 +1,4 @@
-ghost use Rattle.std.specs.Prelude.{◌≡◌, nat_lt, slice_index};
+ghost use Rattle.std.specs.Prelude.{◌≡◌, nat_lt, slice_index, replicate};
 ghost use Rattle.tags.specs.Bare.{records};
 ghost use Rattle.reading.specs.Hiders.{hides_above, hider_at, raised, Noted, CarriedOn, shown_by};
 ghost use Rattle.reading.specs.Tells.{Tells};
@@ -9,30 +9,27 @@ use std::mem;
 use tags::{kind_of, object_of};
 
 // The chunk numbers and 0.
-const NUMBERS: usize = LAST_NUMBER as usize + 1;
+pub(crate) const NUMBERS: usize = LAST_NUMBER as usize + 1;
 
 // What hides the chunks of an object, by chunk number: the largest serial of a record that hides there.
 #[derive(Drop)]
 pub(crate) struct Hiders {
-    object: u32,
-    serials: [u32; NUMBERS],
+    pub(crate) object: u32,
+    pub(crate) serials: [u32; NUMBERS],
 }
 
 impl Hiders {
-    // What hides the chunks of the object, among the records that the looks tell of.
-    pub(crate) fn of(looks: &[Look], object: u32) -> Hiders
-        ensures object { result.object ≡ object }
-        ensures tells { Tells (records looks.now) result }
+    // Takes up what hides the chunks of the object, among the records that the looks tell of. In place: an answer of 4 KB
+    // would be copied.
+    pub(crate) fn tell(&mut self, looks: &[Look])
+        requires { self.old.serials ≡ replicate 1001 0 }
+        ensures object { self.new.object ≡ self.old.object }
+        ensures tells { Tells (records looks.now) self.new }
     {
-        let mut hiders = Hiders {
-            object,
-            serials: [0; NUMBERS],
-        };
         for tag in looks.iter().filter_map(Look::tag) {
-            hiders.note(&tag);
+            self.note(&tag);
         }
-        hiders.carry();
-        hiders
+        self.carry();
     }
 
     // The chunk number above which the record hides chunks of the object.

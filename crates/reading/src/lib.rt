@@ -6,5 +6,5 @@ mod hiders;
 pub mod lengths;
 pub mod reading;
 
-pub use lengths::{highest_chunk, length, size};
+pub use lengths::{highest_chunk, length, size, size_by};
 pub use reading::{chunk, header, hidden, present};
