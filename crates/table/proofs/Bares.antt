@@ -11,6 +11,35 @@ use Rattle.rules.specs.Reading.{newest, newer_if, head_of, data_of, header, head
 use Rattle.tags.specs.Bare.{bare}
 use Rattle.table.proofs.Onces.{keep-alike}
 
+-- one record bare
+in-file-by : (rs : List Record) (r : Record) (k : Kind) → in_file_by rs (bare r) k ≡ in_file_by rs r k
+unfolding hidden hides topped replaced head_of data_of object kind
+in-file-by rs r data_k = refl
+in-file-by rs r header_k = refl
+in-file-by rs r cut_k = refl
+in-file-by rs r marker_k = refl
+in-file-by rs r other_k = refl
+
+pub in-file-bare : (rs : List Record) (r : Record) → in_file rs (bare r) ≡ in_file rs r
+unfolding in_file kind
+in-file-bare rs r = in-file-by rs r (kind r)
+
+wanted_by_lem : (rs : List Record) (r : Record) (k : Kind) → wanted_by rs (bare r) k ≡ wanted_by rs r k
+unfolding hidden hides topped replaced outmarked has_older hides_some head_of data_of object kind
+wanted_by_lem rs r data_k = refl
+wanted_by_lem rs r header_k = refl
+wanted_by_lem rs r cut_k = refl
+wanted_by_lem rs r marker_k = refl
+wanted_by_lem rs r other_k = refl
+
+pub wanted-bare : (rs : List Record) (r : Record) → wanted rs (bare r) ≡ wanted rs r
+unfolding wanted kind
+wanted-bare rs r = wanted_by_lem rs r (kind r)
+
+pub used-by : (rs : List Record) → length (keep (λ x. in_file rs (bare x)) (once rs)) ≡ used rs
+unfolding used
+used-by rs = ap length (keep-alike (λ x. in_file rs (bare x)) (in_file rs) (in-file-bare rs) (once rs))
+
 -- lists of bare records
 module _ {A B : Type 0} (f : A → B) where
   pub any-map : (t : B → Bool) (xs : List A) → any t (map f xs) ≡ any (λ x. t (f x)) xs

@@ -4,3 +4,4 @@ pub mod Bares
 pub mod Loading
 pub mod Onces
 pub mod Rows
+pub mod Shrinking

@@ -29,6 +29,9 @@ holds-alike t u e blank_c = refl
 holds-alike t u e damaged_c = refl
 holds-alike t u e (holds_c r) = e r
 
+get_or-bares : (xs : List Look) (c : ℕ) → bare_of (get_or xs c Blank) ≡ get_or (bares xs) c blank_c
+get_or-bares xs c = sym (get_or-image bare_of xs c Blank)
+
 module _ (p b n : ℕ) (looks : List Look) (long : length looks ≡ n * p) (in' : b < n) where
   pub block_fits : b * p + p ≤ length looks
   block_fits = let h : suc b * p ≤ n * p = mul-le-mul_right p (omega arith) in omega (arith, long)
@@ -77,7 +80,7 @@ module _ (p b n : ℕ) (looks : List Look) (long : length looks ≡ n * p) (in' 
     row_by : (c : ℕ) → first_of Loads (records (take c s.within.now)) (get_or s.within.now c Blank) ≡ load_at blocks b c
     unfolding load_at
     row_by c =
-        ap (holds_one (λ (r : Record). Loads r && fresh (records (take c s.within.now)) r)) (sym (get_or-image bare_of s.within.now c Blank) ∙ ap (λ (z : List Chunk). get_or z c blank_c) within_same)
+        ap (holds_one (λ (r : Record). Loads r && fresh (records (take c s.within.now)) r)) (get_or-bares s.within.now c ∙ ap (λ (z : List Chunk). get_or z c blank_c) within_same)
         ∙ holds-alike _ _ (λ r. ap (λ (a : Bool). a && fresh (records (take c s.within.now)) r) (makes-is r) ∙ ap (λ (z : List Record). makes_load (standing blocks) (standing (set blocks b [])) r && fresh z r) seen) (get_or (get_or blocks b []) c blank_c)
       where
         seen : records (take c s.within.now) ≡ records_of (take c (get_or blocks b []))
